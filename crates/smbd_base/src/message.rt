@@ -1,0 +1,56 @@
+ghost use Rattle.std.specs.Prelude.{◌≡◌, ◌==◌, length, IfOk};
+
+use crate::no_memory::NoMemory;
+use std::alloc::Global;
+use std::marker::Model;
+
+/// The bytes of one message of the layer above, which data transfer messages carry in one piece or several
+/// (MS-SMBD 3.1.5.1). Contracts see the list of the bytes.
+#[derive(Clone, Debug, Drop)]
+pub struct Message {
+    bytes: Vec<u8>,
+}
+
+impl Model for Message {
+    ghost use Rattle.std.specs.Prelude.{List, ℕ};
+
+    ghost Value = { List ℕ };
+
+    ghost view = { λ m. m.bytes.items };
+}
+
+impl Message {
+    /// A message of the same bytes.
+    pub fn copy_of(alloc: Global, bytes: &[u8]) -> Result<Message, NoMemory>
+        ensures { IfOk result (λ m. m ≡ bytes.now) }
+    {
+        Ok(Message {
+            bytes: Vec::from_slice(alloc, bytes)?,
+        })
+    }
+
+    /// A message of these bytes, which are moved and not copied.
+    pub fn of_bytes(bytes: Vec<u8>) -> Message
+        ensures { result ≡ bytes.items }
+    {
+        Message { bytes }
+    }
+
+    pub fn bytes(&self) -> &[u8]
+        ensures { result.now ≡ self.now }
+    {
+        self.bytes.as_slice()
+    }
+
+    pub fn len(&self) -> usize
+        ensures { result ≡ length self.now }
+    {
+        self.bytes.len()
+    }
+
+    pub fn is_empty(&self) -> bool
+        ensures { result ≡ (length self.now == 0) }
+    {
+        self.bytes.is_empty()
+    }
+}
