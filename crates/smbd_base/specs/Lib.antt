@@ -1,3 +1,10 @@
 pub mod Fields
 pub mod Grant
 pub mod Limits
+pub mod DataFrame
+pub mod Negotiation
+pub mod Pieces
+pub mod Counts
+pub mod History
+pub mod Delivery
+pub mod Joint

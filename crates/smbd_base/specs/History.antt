@@ -1,0 +1,240 @@
+-- What comes next at an end, and which events may follow (MS-SMBD 3.1.5; when a frame goes out, what it grants and
+-- when it asks for a response are this project's own). A past is a list of events, the newest one first.
+use Rattle.std.specs.Prelude.{◌≡◌, ℕ, ◌-◌, ◌%◌, ◌==◌, ◌<◌, ◌≤◌, ◌+◌, nat_lt, nat_le, nat_eq, min, Bool, true, false, not, ◌||◌, ◌&&◌, is_some, is_none, Option, Some, None, Result, Ok, Err, List, [], ◌∷◌, ◌++◌, length, drop, if◌then◌else◌}
+use Rattle.std.specs.List.{flat_map}
+use lib.Pointwise.{pointwise}
+use Rattle.smbd_base.specs.declared.agreed.Agreed.{Agreed}
+use Rattle.smbd_base.specs.declared.end_id.EndId.{EndId}
+use Rattle.smbd_base.specs.declared.end_id.EndId.TheVariants.{Client, Server}
+use Rattle.smbd_base.specs.declared.event.Event.{Event}
+use Rattle.smbd_base.specs.declared.event.Event.TheVariants.{Post, Submit, Emit, Take, Cut}
+use Rattle.smbd_base.specs.declared.next.Next.{Next}
+use Rattle.smbd_base.specs.declared.next.Next.TheVariants as due
+use Rattle.smbd_base.specs.declared.faults.FrameFault.{FrameFault}
+use Rattle.smbd_base.specs.declared.faults.TakeFault.{TakeFault}
+use Rattle.smbd_base.specs.declared.faults.TakeFault.TheVariants as faults
+use Rattle.smbd_base.specs.declared.faults.SubmitFault.{SubmitFault}
+use Rattle.smbd_base.specs.declared.faults.SubmitFault.TheVariants as refusals
+use Rattle.smbd_base.specs.Limits.{Limits}
+use Rattle.smbd_base.specs.Negotiation.{request_text, response_text}
+use Rattle.smbd_base.specs.DataFrame.{DataFrame, data_frame_of, frame_bytes}
+use Rattle.smbd_base.specs.Pieces.{Piece, pieces_of}
+use Rattle.smbd_base.specs.Counts.{receives_outstanding, receives_grantable, credits_held, is_silent, is_unheard, is_out_of_turn}
+
+-- ---- the frames of the negotiation
+
+-- the negotiation message with which an end opens
+abbrev pub opening_frame : EndId → Limits → List ℕ
+opening_frame Client limits = request_text limits
+opening_frame Server limits = response_text limits
+
+-- the negotiation message with which the peer opens
+abbrev pub awaited_frame : EndId → Limits → List ℕ
+awaited_frame Client limits = response_text limits
+awaited_frame Server limits = request_text limits
+
+-- ---- when a frame is refused
+
+-- why a data transfer message is refused: until messages are gathered, a piece that is not a whole message is
+abbrev pub data_fault : Result DataFrame FrameFault → Option TakeFault
+data_fault (Err fault) = Some (faults.Frame fault)
+data_fault (Ok d) = if length d.payload == 0 || d.remaining == 0 then None else Some (faults.Fragmented d.remaining)
+
+-- why an end refuses this frame after this past, if it does
+unfoldable pub take_fault : EndId → Limits → List Event → List ℕ → Option TakeFault
+take_fault side limits past frame =
+    if is_out_of_turn side past then Some faults.OutOfTurn
+    else if nat_lt limits.receive_size (length frame) then Some (faults.Oversize (length frame) limits.receive_size)
+    else if is_unheard past then (if pointwise nat_eq frame (awaited_frame side limits) then None else Some faults.NotFixed)
+    else data_fault (data_frame_of frame)
+
+-- ---- what the past says
+
+-- the end was cut
+abbrev pub is_cut : List Event → Bool
+is_cut [] = false
+is_cut (Post n ∷ past) = is_cut past
+is_cut (Submit m ∷ past) = is_cut past
+is_cut (Emit f ∷ past) = is_cut past
+is_cut (Take f ∷ past) = is_cut past
+is_cut (Cut ∷ past) = true
+
+-- nothing has happened yet
+abbrev pub is_new : List Event → Bool
+is_new [] = true
+is_new (e ∷ past) = false
+
+-- the last frame that was taken was refused
+abbrev pub is_refused : EndId → Limits → List Event → Bool
+is_refused side limits [] = false
+is_refused side limits (Post n ∷ past) = is_refused side limits past
+is_refused side limits (Submit m ∷ past) = is_refused side limits past
+is_refused side limits (Emit f ∷ past) = is_refused side limits past
+is_refused side limits (Take f ∷ past) = is_some (take_fault side limits past f)
+is_refused side limits (Cut ∷ past) = is_refused side limits past
+
+-- a frame was taken, and the receive that it used was not posted anew
+abbrev pub is_post_due : List Event → Bool
+is_post_due [] = false
+is_post_due (Post n ∷ past) = false
+is_post_due (Submit m ∷ past) = is_post_due past
+is_post_due (Emit f ∷ past) = false
+is_post_due (Take f ∷ past) = true
+is_post_due (Cut ∷ past) = false
+
+-- the first frame that was taken was the negotiation message that was awaited
+abbrev pub is_welcomed : EndId → Limits → List Event → Bool
+is_welcomed side limits [] = false
+is_welcomed side limits (Post n ∷ past) = is_welcomed side limits past
+is_welcomed side limits (Submit m ∷ past) = is_welcomed side limits past
+is_welcomed side limits (Emit f ∷ past) = is_welcomed side limits past
+is_welcomed side limits (Take f ∷ past) =
+    if is_unheard past then is_none (take_fault side limits past f) else is_welcomed side limits past
+is_welcomed side limits (Cut ∷ past) = is_welcomed side limits past
+
+-- a client is agreed once it has taken the response, and a server once it has sent it
+abbrev pub is_agreed : EndId → Limits → List Event → Bool
+is_agreed side limits past = is_welcomed side limits past && not (is_silent past)
+
+-- the message asks for a response
+abbrev pub asks : Result DataFrame FrameFault → Bool
+asks (Err fault) = false
+asks (Ok d) = d.flags % 2 == 1
+
+-- a data transfer message that was taken asks for a response, and no frame was sent since
+abbrev pub is_response_owed : List Event → Bool
+is_response_owed [] = false
+is_response_owed (Post n ∷ past) = is_response_owed past
+is_response_owed (Submit m ∷ past) = is_response_owed past
+is_response_owed (Emit f ∷ past) = false
+is_response_owed (Take f ∷ past) = (not (is_unheard past) && asks (data_frame_of f)) || is_response_owed past
+is_response_owed (Cut ∷ past) = is_response_owed past
+
+-- ---- what is still to be sent
+
+-- the messages that were submitted, the oldest one first
+abbrev pub messages_submitted : List Event → List (List ℕ)
+messages_submitted [] = []
+messages_submitted (Post n ∷ past) = messages_submitted past
+messages_submitted (Submit m ∷ past) = messages_submitted past ++ m ∷ []
+messages_submitted (Emit f ∷ past) = messages_submitted past
+messages_submitted (Take f ∷ past) = messages_submitted past
+messages_submitted (Cut ∷ past) = messages_submitted past
+
+-- the message has a payload
+abbrev pub carries : Result DataFrame FrameFault → Bool
+carries (Err fault) = false
+carries (Ok d) = not (length d.payload == 0)
+
+-- the pieces that were sent: data transfer messages with a payload
+abbrev pub pieces_sent : List Event → ℕ
+pieces_sent [] = 0
+pieces_sent (Post n ∷ past) = pieces_sent past
+pieces_sent (Submit m ∷ past) = pieces_sent past
+pieces_sent (Emit f ∷ past) = if not (is_silent past) && carries (data_frame_of f) then pieces_sent past + 1 else pieces_sent past
+pieces_sent (Take f ∷ past) = pieces_sent past
+pieces_sent (Cut ∷ past) = pieces_sent past
+
+-- the longest frame that the end sends: no longer than it prefers, and than the peer receives
+abbrev pub send_size : Limits → ℕ
+send_size limits = min limits.send_size limits.receive_size
+
+-- the bytes of a message that one frame carries
+abbrev pub payload_size : Limits → ℕ
+payload_size limits = send_size limits - 24
+
+-- the longest message that may be submitted: until messages are cut, one that fits one frame
+abbrev pub message_limit : Limits → ℕ
+message_limit limits = payload_size limits
+
+-- the pieces of the submitted messages that are still to be sent, the next one first
+abbrev pub pieces_waiting : Limits → List Event → List Piece
+pieces_waiting limits past = drop (pieces_sent past) (flat_map (pieces_of (payload_size limits)) (messages_submitted past))
+
+-- ---- when a frame is sent, and what it holds
+
+-- An agreed end sends where it holds a credit and has a reason: a piece waits, a response is owed, or the peer has at most
+-- one credit left and can be granted more. It keeps its last credit for a frame that grants some.
+abbrev pub sends : ℕ → ℕ → ℕ → Bool → Bool → Bool
+sends held outstanding grantable waits owes =
+    nat_le 1 held
+    && (waits || owes || (nat_le outstanding 1 && nat_le 1 grantable))
+    && (not (held == 1) || nat_le 1 grantable)
+
+-- The frame that an agreed end sends while these pieces wait. It asks for as many credits as the end posts receives, and
+-- grants all that can be granted. It asks for a response where pieces still wait after it, and at most one credit is left.
+abbrev pub data_frame_due : Limits → ℕ → ℕ → List Piece → List ℕ
+data_frame_due limits held grantable [] = frame_bytes limits.credits grantable false 0 []
+data_frame_due limits held grantable (piece ∷ later) =
+    frame_bytes limits.credits grantable (not (length later == 0) && nat_le held 2) piece.remaining piece.payload
+
+-- an end that has sent nothing opens: a client at once, and a server once it has taken the request
+abbrev pub is_opening : EndId → List Event → Bool
+is_opening Client past = is_silent past
+is_opening Server past = is_silent past && not (is_unheard past)
+
+-- what comes next: the first of these that applies
+unfoldable pub next_event : EndId → Limits → List Event → Next
+next_event side limits past =
+    if is_cut past then due.Idle
+    else if is_new past then due.Post limits.credits
+    else if is_refused side limits past then due.Close
+    else if is_post_due past then due.Post 1
+    else if is_opening side past then due.Emit (opening_frame side limits)
+    else if is_agreed side limits past
+    && sends (credits_held side past) (receives_outstanding side past) (receives_grantable side past)
+      (not (length (pieces_waiting limits past) == 0)) (is_response_owed past)
+    then due.Emit (data_frame_due limits (credits_held side past) (receives_grantable side past) (pieces_waiting limits past))
+    else due.Idle
+
+-- ---- legal histories
+
+-- the end was opened, and was neither cut nor has it refused a frame
+abbrev pub is_open : EndId → Limits → List Event → Bool
+is_open side limits past = not (is_cut past) && not (is_refused side limits past) && not (is_new past)
+
+-- a frame may be taken: the end is open, and no receive is due
+abbrev pub is_ready : EndId → Limits → List Event → Bool
+is_ready side limits past = is_open side limits past && not (is_post_due past)
+
+-- why an end refuses this message after this past, if it does
+abbrev pub submit_fault : EndId → Limits → List Event → List ℕ → Option SubmitFault
+submit_fault side limits past message =
+    if not (is_open side limits past) then Some refusals.Closed
+    else if length message == 0 then Some refusals.Empty
+    else if nat_lt (message_limit limits) (length message) then Some refusals.TooLong
+    else None
+
+-- the event may follow this past
+abbrev pub MayFollow : EndId → Limits → Event → List Event → Type 0
+MayFollow side limits (Post n) past = next_event side limits past ≡ due.Post n
+MayFollow side limits (Submit m) past = submit_fault side limits past m ≡ None
+MayFollow side limits (Emit f) past = next_event side limits past ≡ due.Emit f
+MayFollow side limits (Take f) past = is_ready side limits past ≡ true
+MayFollow side limits Cut past = (is_cut past ≡ false) × (is_new past ≡ false)
+
+-- each event may follow those before it
+abbrev pub IsLegal : EndId → Limits → List Event → Type 0
+IsLegal side limits [] = Unit {0}
+IsLegal side limits (e ∷ past) = MayFollow side limits e past × IsLegal side limits past
+
+-- the event that comes next, where one does
+abbrev pub due_event : Next → Option Event
+due_event (due.Post n) = Some (Post n)
+due_event (due.Emit f) = Some (Emit f)
+due_event due.Close = None
+due_event due.Idle = None
+
+-- what the negotiation settled, once the end is agreed; a client is told the peer's MaxReadWriteSize
+abbrev pub read_write_max : EndId → Option ℕ
+read_write_max Client = Some 1048576
+read_write_max Server = None
+
+abbrev pub agreed_of : EndId → Limits → List Event → Option Agreed
+agreed_of side limits past =
+    if is_agreed side limits past then Some (record {
+      send_size = send_size limits;
+      message_max = limits.fragmented_size;
+      read_write_max = read_write_max side;
+      credits_requested = limits.credits;
+    }) else None
