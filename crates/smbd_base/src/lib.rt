@@ -14,6 +14,7 @@ mod limits;
 mod message;
 mod next;
 mod no_memory;
+mod worked;
 
 pub use agreed::Agreed;
 pub use bytes::{u16_at, u32_at};
@@ -25,3 +26,4 @@ pub use limits::{EndLimits, LimitFault};
 pub use message::Message;
 pub use next::Next;
 pub use no_memory::NoMemory;
+pub use worked::worked_histories;
