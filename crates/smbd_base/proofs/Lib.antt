@@ -1,2 +1,6 @@
-pub mod LimitLemmas
+pub mod BalanceLemmas
+pub mod DeliveryLemmas
 pub mod FrameLaws
+pub mod Inversion
+pub mod LimitLemmas
+pub mod PieceLemmas

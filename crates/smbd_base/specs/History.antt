@@ -173,6 +173,17 @@ abbrev pub is_opening : EndId → List Event → Bool
 is_opening Client past = is_silent past
 is_opening Server past = is_silent past && not (is_unheard past)
 
+-- an agreed end has a reason to send a data transfer message, and may
+abbrev pub is_sending : EndId → Limits → List Event → Bool
+is_sending side limits past =
+    is_agreed side limits past
+    && sends (credits_held side past) (receives_outstanding side past) (receives_grantable side past)
+    (not (length (pieces_waiting limits past) == 0)) (is_response_owed past)
+
+-- the data transfer message that it sends
+abbrev pub frame_due : EndId → Limits → List Event → List ℕ
+frame_due side limits past = data_frame_due limits (credits_held side past) (receives_grantable side past) (pieces_waiting limits past)
+
 -- what comes next: the first of these that applies
 unfoldable pub next_event : EndId → Limits → List Event → Next
 next_event side limits past =
@@ -181,10 +192,7 @@ next_event side limits past =
     else if is_refused side limits past then due.Close
     else if is_post_due past then due.Post 1
     else if is_opening side past then due.Emit (opening_frame side limits)
-    else if is_agreed side limits past
-    && sends (credits_held side past) (receives_outstanding side past) (receives_grantable side past)
-    (not (length (pieces_waiting limits past) == 0)) (is_response_owed past)
-    then due.Emit (data_frame_due limits (credits_held side past) (receives_grantable side past) (pieces_waiting limits past))
+    else if is_sending side limits past then due.Emit (frame_due side limits past)
     else due.Idle
 
 -- ---- legal histories

@@ -8,4 +8,5 @@ pub mod Counts
 pub mod History
 pub mod Delivery
 pub mod Joint
+pub mod Balance
 pub mod Worked

@@ -11,6 +11,7 @@ mod event;
 mod faults;
 mod frame;
 mod frame_laws;
+mod laws;
 mod limits;
 mod message;
 mod next;
@@ -24,6 +25,9 @@ pub use event::Event;
 pub use faults::{FrameFault, SubmitFault, TakeFault};
 pub use frame::Frame;
 pub use frame_laws::{written_frames_are_read, written_frames_grant, written_lengths};
+pub use laws::{
+    frames_deliver_what_they_end, legal_histories_balance, next_events_may_follow, posts_are_apart,
+};
 pub use limits::{EndLimits, LimitFault};
 pub use message::Message;
 pub use next::Next;
