@@ -37,12 +37,7 @@ impl Model for MemorySink {
 impl MemorySink {
     /// A sink with room for `room` bytes, which takes at most `most` at a time. It fails exactly at the calls whose
     /// numbers, from 1, are in `fail`, and where nothing is free. Writes take no memory.
-    pub fn open(
-        alloc: Global,
-        room: u32,
-        most: u32,
-        fail: &[u32],
-    ) -> Result<MemorySink, NoMemory>
+    pub fn open(alloc: Global, room: u32, most: u32, fail: &[u32]) -> Result<MemorySink, NoMemory>
         requires { 1 ≤ most }
         ensures { IfOk result (λ sink. sink ≡ record { taken = []; free = room; most = most; fail = fail.now; calls = 0; faults = 0 }) }
     {

@@ -36,11 +36,7 @@ pub fn write_whole<K: Sink>(sink: &mut K, piece: &[u8]) -> Result<(), Failed>
 
 /// Reads until `bytes` has `most` bytes or the source ended. At `Failed` the buffer keeps what was read before.
 /// It takes no memory, as the buffer has room for `most` bytes.
-pub fn fill<S: Source>(
-    source: &mut S,
-    bytes: &mut Vec<u8>,
-    most: usize,
-) -> Result<Filled, Failed>
+pub fn fill<S: Source>(source: &mut S, bytes: &mut Vec<u8>, most: usize) -> Result<Filled, Failed>
     requires room { most ≤ vec_capacity bytes.old }
     requires within { length bytes.old.items ≤ most }
     ensures gains { Gains (S.left source.old) (S.left source.new) bytes.old.items bytes.new.items }
