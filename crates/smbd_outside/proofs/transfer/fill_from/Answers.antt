@@ -1,4 +1,4 @@
-use Rattle.std.proofs.Common.{arith, sym, subst, length, take}
+use Rattle.std.proofs.Common.{arith, sym, subst}
 use Rattle.smbd_outside.specs.Streams.{Gains}
 use Rattle.smbd_outside.proofs.StreamLemmas.{gains_more, take-put_mid_more}
 use Rattle.smbd_outside.proofs.transfer.fill_from.Goals as goal

@@ -1,4 +1,4 @@
-use Rattle.std.proofs.Common.{arith, ap, ◌∙◌, ◌≡◌, drop, length, take}
+use Rattle.std.proofs.Common.{arith, ap, ◌∙◌, drop, length, take}
 use Rattle.std.proofs.lemmas.List.{take_rest}
 use Rattle.smbd_outside.proofs.StreamLemmas.{gives_front, gives_none}
 use Rattle.smbd_outside.proofs.memory_source.MemorySourceSource.read.Goals as goal
