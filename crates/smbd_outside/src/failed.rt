@@ -1,0 +1,6 @@
+use thiserror::Error;
+
+/// A source or a sink failed, and its count of faults rose.
+#[derive(Clone, Copy, Debug, PartialEq, Eq, Error)]
+#[error("a source or a sink failed")]
+pub struct Failed;
