@@ -1,19 +1,18 @@
 -- The counts of a legal history, by induction over its events.
-use Rattle.std.proofs.Common.{◌≡◌, ◌⊎◌, inl, inr, ℕ, ◌+◌, ◌*◌, ◌/◌, ◌%◌, ◌-◌, ◌≤◌, ◌<◌, ◌==◌, nat_le, Bool, true, false, not, ◌&&◌, ◌||◌, length, cond, List, [], ◌∷◌, Option, Some, None, is_some, min, refl, sym, ap, ◌∙◌, subst, arith}
+use Rattle.std.proofs.Common.{◌≡◌, inl, inr, ℕ, ◌+◌, ◌*◌, ◌/◌, ◌%◌, ◌≤◌, ◌<◌, ◌==◌, nat_le, Bool, true, false, not, ◌&&◌, ◌||◌, length, cond, List, [], ◌∷◌, is_some, min, refl, ap, subst, arith}
 use Rattle.std.proofs.lemmas.Bool.Decides.{nat_tests}
 use Rattle.smbd_base.specs.declared.end_id.EndId.{EndId}
 use Rattle.smbd_base.specs.declared.end_id.EndId.TheVariants.{Client, Server}
 use Rattle.smbd_base.specs.declared.event.Event.{Event}
 use Rattle.smbd_base.specs.declared.event.Event.TheVariants.{Post, Submit, Emit, Take, Cut}
-use Rattle.smbd_base.specs.declared.next.Next.TheVariants as due
 use Rattle.smbd_base.specs.Limits.{Limits, IsLawful}
 use Rattle.smbd_base.specs.Grant.{credits_in}
 use Rattle.smbd_base.specs.Pieces.{Piece}
-use Rattle.smbd_base.specs.Counts.{receives_posted, frames_sent, frames_taken, credits_granted, credits_earned, credits_held, receives_outstanding, receives_grantable, is_silent, is_unheard, is_early, is_out_of_turn, peer_of}
-use Rattle.smbd_base.specs.History.{next_event, take_fault, opening_frame, data_frame_due, frame_due, pieces_waiting, is_response_owed, is_cut, is_new, is_refused, is_post_due, is_opening, is_sending, is_agreed, is_welcomed, is_ready, sends, MayFollow, IsLegal}
+use Rattle.smbd_base.specs.Counts.{frames_taken, credits_earned, credits_held, receives_outstanding, receives_grantable, is_silent, is_unheard, is_early, is_out_of_turn, peer_of}
+use Rattle.smbd_base.specs.History.{take_fault, opening_frame, data_frame_due, pieces_waiting, is_response_owed, is_cut, is_new, is_refused, is_post_due, is_opening, is_agreed, is_welcomed, is_ready, sends, MayFollow, IsLegal}
 use Rattle.smbd_base.specs.Balance.{IsBalanced, receives_due}
 use Rattle.smbd_base.proofs.FrameLaws.{credits_in-frame_bytes}
-use Rattle.smbd_base.proofs.Inversion.{IsGoing, Chosen, Emits, emits, posts, both, from_not, ready_parts, in_turn}
+use Rattle.smbd_base.proofs.Inversion.{IsGoing, Emits, emits, posts, both, from_not, ready_parts, in_turn}
 
 -- ---- what a frame that is sent grants
 
@@ -108,7 +107,7 @@ balanced_cut side limits past b = record {
   heard_taken = b.heard_taken;
 }
 
-silent_opening : (side : EndId) (past : List Event) → is_opening side past ≡ true → is_silent past ≡ true
+pub silent_opening : (side : EndId) (past : List Event) → is_opening side past ≡ true → is_silent past ≡ true
 silent_opening Client past opening = opening
 silent_opening Server past opening = (both (is_silent past) _ opening).0
 

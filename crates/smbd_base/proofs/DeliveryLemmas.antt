@@ -1,17 +1,11 @@
 -- What a taken frame delivers.
-use Rattle.std.proofs.Common.{◌≡◌, ℕ, ◌==◌, Bool, true, false, ◌&&◌, not, cond, List, [], ◌∷◌, ◌++◌, length, Option, Some, None, Result, Ok, Err, is_none, option_to_list, refl, sym, ap, ◌∙◌, append-nil}
+use Rattle.std.proofs.Common.{◌≡◌, ℕ, ◌==◌, Bool, true, false, cond, List, [], ◌∷◌, ◌++◌, Option, Some, None, option_to_list, refl, sym, append-nil}
 use Rattle.smbd_base.specs.declared.end_id.EndId.{EndId}
 use Rattle.smbd_base.specs.declared.event.Event.{Event}
-use Rattle.smbd_base.specs.declared.event.Event.TheVariants.{Post, Submit, Emit, Take, Cut}
-use Rattle.smbd_base.specs.declared.faults.FrameFault.{FrameFault}
-use Rattle.smbd_base.specs.declared.faults.TakeFault.{TakeFault}
-use Rattle.smbd_base.specs.declared.faults.TakeFault.TheVariants as faults
+use Rattle.smbd_base.specs.declared.event.Event.TheVariants.{Take}
 use Rattle.smbd_base.specs.Limits.{Limits}
-use Rattle.smbd_base.specs.Pieces.{Piece, Gathered, with_piece}
-use Rattle.smbd_base.specs.Counts.{is_unheard, is_out_of_turn}
-use Rattle.smbd_base.specs.DataFrame.{DataFrame, data_frame_of}
-use Rattle.smbd_base.specs.History.{take_fault, data_fault}
-use Rattle.smbd_base.specs.Delivery.{gather, gathered, messages_delivered, message_brought, message_ended, piece_in, piece_brought}
+use Rattle.smbd_base.specs.Pieces.{Piece, Gathered}
+use Rattle.smbd_base.specs.Delivery.{gather, gathered, messages_delivered, message_brought, message_ended, piece_brought}
 
 gather_more : (g : Gathered) (o : Option Piece) → (gather g o).messages ≡ g.messages ++ option_to_list (message_ended g o)
 gather_more g None = sym (append-nil g.messages)

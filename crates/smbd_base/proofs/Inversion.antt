@@ -1,9 +1,8 @@
 -- What follows from which event comes next, and from that a frame is not refused.
-use Rattle.std.proofs.Common.{◌≡◌, ◌⊎◌, inl, inr, ℕ, Bool, true, false, not, ◌&&◌, ◌||◌, cond, List, [], ◌∷◌, Option, Some, None, is_some, refl, sym, ap, ◌∙◌}
+use Rattle.std.proofs.Common.{◌≡◌, ◌⊎◌, inl, inr, ℕ, Bool, true, false, not, ◌&&◌, cond, List, ◌∷◌, Option, Some, is_some, refl}
 use Rattle.smbd_base.specs.declared.end_id.EndId.{EndId}
 use Rattle.smbd_base.specs.declared.event.Event.{Event}
 use Rattle.smbd_base.specs.declared.event.Event.TheVariants.{Post}
-use Rattle.smbd_base.specs.declared.next.Next.{Next}
 use Rattle.smbd_base.specs.declared.next.Next.TheVariants as due
 use Rattle.smbd_base.specs.Limits.{Limits}
 use Rattle.smbd_base.specs.declared.faults.TakeFault.{TakeFault}

@@ -3,4 +3,5 @@ pub mod DeliveryLemmas
 pub mod FrameLaws
 pub mod Inversion
 pub mod LimitLemmas
+pub mod NextLemmas
 pub mod PieceLemmas

@@ -1,8 +1,8 @@
 -- The pieces of a message.
-use Rattle.std.proofs.Common.{◌≡◌, ℕ, zero, suc, ◌+◌, ◌*◌, ◌-◌, ◌/◌, ◌≤◌, ◌<◌, List, [], ◌∷◌, length, take, drop, refl, sym, ap, ◌∙◌, arith}
+use Rattle.std.proofs.Common.{◌≡◌, ℕ, ◌+◌, ◌*◌, ◌-◌, ◌/◌, ◌≤◌, ◌<◌, List, [], ◌∷◌, length, take, refl, arith}
 use Rattle.std.proofs.lemmas.List.{take_all}
 use Rattle.std.proofs.lemmas.Nat.{div-mul-add}
-use Rattle.smbd_base.specs.Pieces.{Piece, pieces_of, pieces_count, front_pieces}
+use Rattle.smbd_base.specs.Pieces.{Piece, pieces_of, pieces_count}
 
 -- a message in one piece
 abbrev pub whole : List ℕ → Piece

@@ -1,5 +1,5 @@
 -- Worked histories: what the definitions say of small examples, found by computation.
-use Rattle.std.specs.Prelude.{◌≡◌, ℕ, Bool, true, false, Option, Some, None, List, [], ◌∷◌, ◌++◌, length, replicate, take, drop}
+use Rattle.std.specs.Prelude.{◌≡◌, ℕ, true, false, Some, None, List, [], ◌∷◌, replicate, take}
 use Rattle.smbd_base.specs.declared.end_id.EndId.TheVariants.{Client, Server}
 use Rattle.smbd_base.specs.declared.event.Event.{Event}
 use Rattle.smbd_base.specs.declared.event.Event.TheVariants.{Post, Submit, Emit, Take, Cut}
@@ -10,7 +10,7 @@ use Rattle.smbd_base.specs.declared.faults.FrameFault.TheVariants.{Short}
 use Rattle.smbd_base.specs.Limits.{Limits, usual_limits}
 use Rattle.smbd_base.specs.Negotiation.{request_text, response_text}
 use Rattle.smbd_base.specs.DataFrame.{frame_bytes}
-use Rattle.smbd_base.specs.Pieces.{Piece, pieces_of}
+use Rattle.smbd_base.specs.Pieces.{pieces_of}
 use Rattle.smbd_base.specs.Counts.{receives_outstanding, receives_grantable, credits_held, frames_taken}
 use Rattle.smbd_base.specs.History.{next_event, take_fault, submit_fault}
 use Rattle.smbd_base.specs.Delivery.{messages_delivered}

@@ -1,0 +1,4 @@
+pub mod BroughtLemmas
+pub mod HeldLemmas
+pub mod QueueLemmas
+pub mod TrackLemmas

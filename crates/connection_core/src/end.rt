@@ -1,0 +1,293 @@
+//! One end of a connection.
+
+ghost use Rattle.std.specs.Prelude.{◌≡◌, ◌++◌, [], ◌∷◌, ◌≤◌, true, false, is_some, reverse, IfOk, IfErr, OnOk, OnErr, option_to_list};
+ghost use Rattle.smbd_base.specs.declared.end_id.EndId.TheVariants as side;
+ghost use Rattle.smbd_base.specs.declared.event.Event.{Event as Happening};
+ghost use Rattle.smbd_base.specs.declared.event.Event.TheVariants as events;
+ghost use Rattle.smbd_base.specs.Counts as count;
+ghost use Rattle.smbd_base.specs.Delivery.{messages_delivered, message_brought};
+ghost use Rattle.smbd_base.specs.History as spec;
+ghost use Rattle.smbd_base.specs.Limits.{IsLawful};
+ghost use Rattle.smbd_base.specs.Counts.{is_silent};
+ghost use Rattle.connection_core.specs.Queue.{waiting_after};
+ghost use Rattle.connection_core.specs.Answered.{IsSubmitFault, IsTakeRefused};
+
+use crate::frames;
+use crate::refused::{SubmitRefused, TakeRefused};
+use crate::track::Track;
+use smbd_base::{
+    Agreed, EndId, EndLimits, Event, Frame, Message, Next, NoMemory, SubmitFault, TakeFault,
+};
+use std::alloc::Global;
+use std::collections::VecDeque;
+use std::marker::Model;
+
+/// One end of an SMB Direct connection (MS-SMBD 3.1). Contracts see its side, its limits, its past, the newest event
+/// first, and the event that is prepared.
+#[derive(Drop)]
+pub struct End {
+    alloc: Global,
+    track: Track,
+    waiting: VecDeque<Message>,
+    prepared: Option<Event>,
+}
+
+impl Model for End {
+    ghost use Rattle.connection_core.specs.Shown.{Shown};
+
+    ghost Value = { Shown };
+
+    ghost use Rattle.connection_core.specs.Holds.{Holds};
+
+    ghost view = { λ e. record { side = e.track.side; limits = e.track.limits; past = e.track.past; prepared = e.prepared } };
+
+    ghost invariant = { λ e. Holds e.track e.waiting.items e.prepared };
+}
+
+impl End {
+    /// A client that has posted its receives.
+    pub fn open_client(alloc: Global, limits: EndLimits) -> Result<End, NoMemory>
+        ensures { IfOk result (λ e. e ≡ record { side = side.Client; limits = limits; past = events.Post limits.credits ∷ []; prepared = None }) }
+    {
+        End::open(alloc, EndId::Client, limits)
+    }
+
+    /// A server that has posted its receives.
+    pub fn open_server(alloc: Global, limits: EndLimits) -> Result<End, NoMemory>
+        ensures { IfOk result (λ e. e ≡ record { side = side.Server; limits = limits; past = events.Post limits.credits ∷ []; prepared = None }) }
+    {
+        End::open(alloc, EndId::Server, limits)
+    }
+
+    fn open(alloc: Global, side: EndId, limits: EndLimits) -> Result<End, NoMemory>
+        ensures { IfOk result (λ e. e ≡ record { side = side; limits = limits; past = events.Post limits.credits ∷ []; prepared = None }) }
+    {
+        Ok(End {
+            alloc,
+            track: Track::open(alloc, side, limits)?,
+            waiting: VecDeque::new(alloc),
+            prepared: None,
+        })
+    }
+
+    /// Accepts a message to be sent. It is refused, and handed back, after a cut or a refused frame (`Closed`), where
+    /// it has no byte (`Empty`), and where it is longer than may be sent (`TooLong`). A refusal changes nothing.
+    pub fn submit(&mut self, message: Message) -> Result<(), SubmitRefused>
+        ensures accepted { OnOk result (spec.submit_fault self.old.side self.old.limits self.old.past message ≡ None) }
+        ensures added { OnOk result (self.new ≡ record self.old { past = events.Submit message ∷ self.old.past; prepared = None }) }
+        ensures fault { IfErr result (λ r. IsSubmitFault (spec.submit_fault self.old.side self.old.limits self.old.past message) r.fault) }
+        ensures returned { IfErr result (λ r. r.message ≡ message) }
+        ensures same { OnErr result (self.new ≡ self.old) }
+        ensures legal { spec.IsLegal self.new.side self.new.limits self.new.past }
+    {
+        if let Some(fault) = self.track.submit_fault(&message) {
+            return Err(SubmitRefused { fault, message });
+        }
+        match keep(&mut self.track, &mut self.waiting, &message) {
+            Ok(()) => {
+                self.track.add_submit(message);
+                self.prepared = None;
+                Ok(())
+            }
+            Err(NoMemory) => Err(SubmitRefused {
+                fault: SubmitFault::NoMemory,
+                message,
+            }),
+        }
+    }
+
+    /// Tells what comes next, and adds no event. A Post or an Emit is prepared, with the room that it needs, for
+    /// `commit`; after any other answer nothing is prepared.
+    pub fn next(&mut self) -> Result<Next, NoMemory>
+        ensures next { IfOk result (λ n. n ≡ spec.next_event self.old.side self.old.limits self.old.past) }
+        ensures prepared { IfOk result (λ n. self.new ≡ record self.old { prepared = spec.due_event n }) }
+        ensures none { OnErr result (self.new ≡ record self.old { prepared = None }) }
+    {
+        self.prepared = None;
+        let next = self.track.next(self.alloc, &self.waiting)?;
+        if let Some(event) = due_event(&next)? {
+            self.track.reserve(2)?;
+            self.prepared = Some(event);
+        }
+        Ok(next)
+    }
+
+    /// Adds the prepared event to the history.
+    pub fn commit(&mut self)
+        requires { is_some self.old.prepared ≡ true }
+        ensures added { (e : Happening) → self.old.prepared ≡ Some e → self.new ≡ record self.old { past = e ∷ self.old.past; prepared = None } }
+        ensures legal { spec.IsLegal self.new.side self.new.limits self.new.past }
+    {
+        match self.prepared.take() {
+            Some(Event::Post(_)) => self.track.add_post(),
+            Some(Event::Emit(frame)) => {
+                send_first(&self.track, &mut self.waiting);
+                self.track.add_emit(frame);
+            }
+            _ => unreachable!(),
+        }
+    }
+
+    /// Whether a frame may be taken: the end is open, and no receive is due.
+    pub fn ready(&self) -> bool
+        ensures { result ≡ spec.is_ready self.now.side self.now.limits self.now.past }
+    {
+        self.track.is_ready()
+    }
+
+    /// Takes a frame that the peer sent, and gives the message that it ends. A frame that is refused is handed back;
+    /// but for want of memory, its Take is then in the history, and the end can only be cut.
+    pub fn take(&mut self, frame: Frame) -> Result<Option<Message>, TakeRefused>
+        requires { spec.is_ready self.old.side self.old.limits self.old.past ≡ true }
+        ensures accepted { OnOk result (spec.take_fault self.old.side self.old.limits self.old.past frame ≡ None) }
+        ensures added { OnOk result (self.new ≡ record self.old { past = events.Take frame ∷ self.old.past; prepared = None }) }
+        ensures delivered { IfOk result (λ m. messages_delivered self.old.side self.old.limits (events.Take frame ∷ self.old.past)
+            ≡ messages_delivered self.old.side self.old.limits self.old.past ++ option_to_list m) }
+        ensures refused { IfErr result (λ r. IsTakeRefused self.old frame r.fault self.new) }
+        ensures returned { IfErr result (λ r. r.frame ≡ frame) }
+        ensures legal { spec.IsLegal self.new.side self.new.limits self.new.past }
+    {
+        match self.track.take_fault(&frame) {
+            None => match brought(self.alloc, &mut self.track, &frame) {
+                Ok(message) => {
+                    self.track.add_take(frame, false);
+                    self.prepared = None;
+                    Ok(message)
+                }
+                Err(NoMemory) => Err(no_memory(frame)),
+            },
+            Some(fault) => match copied(&mut self.track, &frame) {
+                Ok(copy) => {
+                    self.track.add_take(frame, true);
+                    self.prepared = None;
+                    Err(TakeRefused { fault, frame: copy })
+                }
+                Err(NoMemory) => Err(no_memory(frame)),
+            },
+        }
+    }
+
+    /// Cuts the end. It changes nothing where the end is cut already.
+    pub fn cut(&mut self)
+        ensures cut { spec.is_cut self.old.past ≡ false → self.new ≡ record self.old { past = events.Cut ∷ self.old.past; prepared = None } }
+        ensures same { spec.is_cut self.old.past ≡ true → self.new ≡ self.old }
+        ensures legal { spec.IsLegal self.new.side self.new.limits self.new.past }
+    {
+        if self.track.is_cut() {
+            return;
+        }
+        self.track.add_cut();
+        self.prepared = None;
+    }
+
+    /// What the negotiation has settled: a client is agreed once it has taken the response, and a server once it has
+    /// sent it.
+    pub fn agreed(&self) -> Option<Agreed>
+        ensures { result ≡ spec.agreed_of self.now.side self.now.limits self.now.past }
+    {
+        self.track.agreed()
+    }
+
+    /// The credits with which the end may send.
+    pub fn held(&self) -> u16
+        ensures { result ≡ count.credits_held self.now.side self.now.past }
+    {
+        self.track.held()
+    }
+
+    /// The credits that the peer was granted and has not used.
+    pub fn outstanding(&self) -> u16
+        ensures { result ≡ count.receives_outstanding self.now.side self.now.past }
+    {
+        self.track.outstanding()
+    }
+
+    /// The receives that are posted and not yet granted.
+    pub fn grantable(&self) -> u16
+        ensures { result ≡ count.receives_grantable self.now.side self.now.past }
+    {
+        self.track.grantable()
+    }
+
+    /// The events so far, in the order of time.
+    pub fn history(&self) -> &[Event]
+        ensures past { reverse result.now ≡ self.now.past }
+        ensures lawful { IsLawful self.now.limits }
+        ensures legal { spec.IsLegal self.now.side self.now.limits self.now.past }
+    {
+        self.track.events()
+    }
+}
+
+/// Keeps a copy of a message that was accepted, to be sent, with room for its Submit and for a Cut.
+fn keep(
+    track: &mut Track,
+    waiting: &mut VecDeque<Message>,
+    message: &Message,
+) -> Result<(), NoMemory>
+    ensures kept { OnOk result (waiting.new.items ≡ waiting.old.items ++ message.now ∷ []) }
+    ensures same { OnErr result (waiting.new.items ≡ waiting.old.items) }
+    ensures track { track.new ≡ record track.old { room = track.new.room } }
+    ensures room { OnOk result (2 ≤ track.new.room) }
+    ensures more { track.old.room ≤ track.new.room }
+{
+    track.reserve(2)?;
+    waiting.push_back(message.clone()?)?;
+    Ok(())
+}
+
+/// Lets go of the message that the next frame carries: the first frame of an end carries none.
+fn send_first(track: &Track, waiting: &mut VecDeque<Message>)
+    ensures { waiting.new.items ≡ waiting_after (is_silent track.now.past) waiting.old.items }
+{
+    if !track.is_silent() {
+        drop(waiting.pop_front());
+    }
+}
+
+/// The message that a frame brings that is not refused, with room for its Take and for a Cut.
+fn brought(alloc: Global, track: &mut Track, frame: &Frame) -> Result<Option<Message>, NoMemory>
+    requires { spec.take_fault track.old.side track.old.limits track.old.past frame.now ≡ None }
+    ensures message { IfOk result (λ m. m ≡ message_brought track.old.side track.old.limits track.old.past frame.now) }
+    ensures track { track.new ≡ record track.old { room = track.new.room } }
+    ensures room { OnOk result (2 ≤ track.new.room) }
+    ensures more { track.old.room ≤ track.new.room }
+{
+    track.reserve(2)?;
+    if track.is_unheard() {
+        return Ok(None);
+    }
+    frames::payload(alloc, frame.bytes())
+}
+
+/// A copy of a frame that is refused, with room for its Take and for a Cut.
+fn copied(track: &mut Track, frame: &Frame) -> Result<Frame, NoMemory>
+    ensures copy { IfOk result (λ f. f ≡ frame.now) }
+    ensures track { track.new ≡ record track.old { room = track.new.room } }
+    ensures room { OnOk result (2 ≤ track.new.room) }
+    ensures more { track.old.room ≤ track.new.room }
+{
+    track.reserve(2)?;
+    Ok(frame.clone()?)
+}
+
+fn no_memory(frame: Frame) -> TakeRefused
+    ensures fault { result.fault ≡ TakeFault.NoMemory }
+    ensures frame { result.frame ≡ frame }
+{
+    TakeRefused {
+        fault: TakeFault::NoMemory,
+        frame,
+    }
+}
+
+/// The event that comes next, where one does.
+fn due_event(next: &Next) -> Result<Option<Event>, NoMemory>
+    ensures { IfOk result (λ e. e ≡ spec.due_event next.now) }
+{
+    match next {
+        Next::Post(n) => Ok(Some(Event::Post(*n))),
+        Next::Emit(frame) => Ok(Some(Event::Emit(frame.clone()?))),
+        Next::Close | Next::Idle => Ok(None),
+    }
+}

@@ -1,0 +1,449 @@
+//! What an end knows of its history without reading it again: its counts, and what it waits for.
+
+ghost use Rattle.std.specs.Prelude.{◌≡◌, ◌-◌, ◌<◌, ◌≤◌, true, false, ◌&&◌, nat_lt, nat_le, [], ◌∷◌, is_some, reverse, None, IfOk, OnOk};
+ghost use Rattle.smbd_base.specs.declared.event.Event.TheVariants as events;
+ghost use Rattle.smbd_base.specs.declared.next.Next.TheVariants as due;
+ghost use Rattle.smbd_base.specs.Counts as count;
+ghost use Rattle.smbd_base.specs.History as spec;
+ghost use Rattle.smbd_base.specs.Limits.{IsLawful};
+ghost use Rattle.connection_core.specs.Queue.{IsQueue};
+ghost use Rattle.connection_core.specs.Standing.{standing_of};
+
+use crate::frames;
+use crate::history::History;
+use smbd_base::{
+    Agreed, EndId, EndLimits, Event, Frame, Message, Next, NoMemory, SubmitFault, TakeFault,
+};
+use std::alloc::Global;
+use std::collections::VecDeque;
+use std::marker::Model;
+use transfer_msg::Header;
+
+/// Whether an end goes on.
+#[derive(Clone, Copy, Debug, PartialEq, Eq)]
+pub enum Standing {
+    Open,
+    Refused,
+    Cut,
+}
+
+/// The history of an end, beside the few numbers that say all that the next step needs of it.
+/// Contracts see the side, the limits, the past and the room for events.
+#[derive(Drop)]
+pub struct Track {
+    side: EndId,
+    limits: EndLimits,
+    history: History,
+    held: u16,
+    outstanding: u16,
+    grantable: u16,
+    standing: Standing,
+    spoken: bool,
+    heard: bool,
+    welcomed: bool,
+    post_due: bool,
+    response_owed: bool,
+}
+
+impl Model for Track {
+    ghost use Rattle.connection_core.specs.Tracked.{Tracked};
+
+    ghost Value = { Tracked };
+
+    ghost use Rattle.connection_core.specs.Keeps.{Keeps};
+
+    ghost view = { λ t. record { side = t.side; limits = t.limits; past = t.history.past; room = t.history.room } };
+
+    ghost invariant = { λ t. Keeps t };
+}
+
+impl Track {
+    /// An end that has posted its receives, with room for one event more.
+    pub fn open(alloc: Global, side: EndId, limits: EndLimits) -> Result<Track, NoMemory>
+        ensures opened { IfOk result (λ t. t ≡ record { side = side; limits = limits; past = events.Post limits.credits ∷ []; room = t.room }) }
+        ensures room { IfOk result (λ t. 0 < t.room) }
+        ensures lawful { OnOk result (IsLawful limits) }
+        ensures legal { spec.IsLegal side limits (events.Post limits.credits ∷ []) }
+    {
+        let credits = limits.credits();
+        let mut history = History::open(alloc, 2)?;
+        history.push(Event::Post(credits));
+        Ok(Track {
+            side,
+            limits,
+            history,
+            held: 1,
+            outstanding: 1,
+            grantable: credits - 1,
+            standing: Standing::Open,
+            spoken: false,
+            heard: false,
+            welcomed: false,
+            post_due: false,
+            response_owed: false,
+        })
+    }
+
+    pub fn side(&self) -> EndId
+        ensures { result ≡ self.now.side }
+    {
+        self.side
+    }
+
+    pub fn held(&self) -> u16
+        ensures { result ≡ count.credits_held self.now.side self.now.past }
+    {
+        self.held
+    }
+
+    pub fn outstanding(&self) -> u16
+        ensures { result ≡ count.receives_outstanding self.now.side self.now.past }
+    {
+        self.outstanding
+    }
+
+    pub fn grantable(&self) -> u16
+        ensures { result ≡ count.receives_grantable self.now.side self.now.past }
+    {
+        self.grantable
+    }
+
+    pub fn events(&self) -> &[Event]
+        ensures { reverse result.now ≡ self.now.past }
+    {
+        self.history.events()
+    }
+
+    pub fn is_cut(&self) -> bool
+        ensures { result ≡ spec.is_cut self.now.past }
+    {
+        self.standing == Standing::Cut
+    }
+
+    pub fn is_open(&self) -> bool
+        ensures { result ≡ spec.is_open self.now.side self.now.limits self.now.past }
+    {
+        self.standing == Standing::Open
+    }
+
+    pub fn is_ready(&self) -> bool
+        ensures { result ≡ spec.is_ready self.now.side self.now.limits self.now.past }
+    {
+        self.is_open() && !self.post_due
+    }
+
+    pub fn is_silent(&self) -> bool
+        ensures { result ≡ count.is_silent self.now.past }
+    {
+        !self.spoken
+    }
+
+    pub fn is_unheard(&self) -> bool
+        ensures { result ≡ count.is_unheard self.now.past }
+    {
+        !self.heard
+    }
+
+    fn is_agreed(&self) -> bool
+        ensures { result ≡ spec.is_agreed self.now.side self.now.limits self.now.past }
+    {
+        self.welcomed && self.spoken
+    }
+
+    fn is_out_of_turn(&self) -> bool
+        ensures { result ≡ count.is_out_of_turn self.now.side self.now.past }
+    {
+        let early = match self.side {
+            EndId::Client => !self.spoken,
+            EndId::Server => false,
+        };
+        early || self.outstanding == 0
+    }
+
+    /// What the negotiation has settled, once it has.
+    pub fn agreed(&self) -> Option<Agreed>
+        ensures { result ≡ spec.agreed_of self.now.side self.now.limits self.now.past }
+    {
+        if !self.is_agreed() {
+            return None;
+        }
+        Some(Agreed {
+            send_size: frames::send_size(&self.limits),
+            message_max: self.limits.fragmented_size(),
+            read_write_max: match self.side {
+                EndId::Client => Some(frames::READ_WRITE_MAX),
+                EndId::Server => None,
+            },
+            credits_requested: self.limits.credits(),
+        })
+    }
+
+    /// Why a message is refused, if it is.
+    pub fn submit_fault(&self, message: &Message) -> Option<SubmitFault>
+        ensures { result ≡ spec.submit_fault self.now.side self.now.limits self.now.past message.now }
+    {
+        if !self.is_open() {
+            return Some(SubmitFault::Closed);
+        }
+        if message.is_empty() {
+            return Some(SubmitFault::Empty);
+        }
+        if message.len() > frames::payload_size(&self.limits) as usize {
+            return Some(SubmitFault::TooLong);
+        }
+        None
+    }
+
+    /// Why a frame is refused, if it is.
+    #[tactic(auto, unfolding(smbd_base::specs::History::take_fault))]
+    pub fn take_fault(&self, frame: &Frame) -> Option<TakeFault>
+        ensures { result ≡ spec.take_fault self.now.side self.now.limits self.now.past frame.now }
+    {
+        if self.is_out_of_turn() {
+            return Some(TakeFault::OutOfTurn);
+        }
+        let limit = self.limits.receive_size();
+        let length = frame.len();
+        if length > limit as usize {
+            return Some(TakeFault::Oversize {
+                length: length as u64,
+                limit,
+            });
+        }
+        if self.heard {
+            return frames::data_fault(frame.bytes());
+        }
+        if frames::is_awaited(frame.bytes(), self.side, &self.limits) {
+            None
+        } else {
+            Some(TakeFault::NotFixed)
+        }
+    }
+
+    /// The event that comes next, while these messages wait to be sent.
+    pub fn next(&self, alloc: Global, waiting: &VecDeque<Message>) -> Result<Next, NoMemory>
+        requires queue { IsQueue self.now.limits self.now.past waiting.now.items }
+        ensures { IfOk result (λ n. n ≡ spec.next_event self.now.side self.now.limits self.now.past) }
+    {
+        match self.standing() {
+            Standing::Cut => return Ok(Next::Idle),
+            Standing::Refused => return Ok(Next::Close),
+            Standing::Open => {}
+        }
+        if self.is_post_due() {
+            return Ok(Next::Post(1));
+        }
+        if self.is_opening() {
+            return Ok(Next::Emit(self.opening_frame(alloc)?));
+        }
+        if self.is_sending(waiting) {
+            return Ok(Next::Emit(self.frame_due(alloc, waiting)?));
+        }
+        Ok(Next::Idle)
+    }
+
+    fn standing(&self) -> Standing
+        ensures standing { result ≡ standing_of self.now.side self.now.limits self.now.past }
+        ensures opened { spec.is_new self.now.past ≡ false }
+    {
+        self.standing
+    }
+
+    fn is_post_due(&self) -> bool
+        ensures { result ≡ spec.is_post_due self.now.past }
+    {
+        self.post_due
+    }
+
+    /// Whether the negotiation message of this end is due.
+    fn is_opening(&self) -> bool
+        ensures { result ≡ spec.is_opening self.now.side self.now.past }
+    {
+        match self.side {
+            EndId::Client => !self.spoken,
+            EndId::Server => !self.spoken && self.heard,
+        }
+    }
+
+    fn opening_frame(&self, alloc: Global) -> Result<Frame, NoMemory>
+        ensures { IfOk result (λ f. f ≡ spec.opening_frame self.now.side self.now.limits) }
+    {
+        frames::opening(alloc, self.side, &self.limits)
+    }
+
+    /// Whether a data transfer message is due, while these messages wait to be sent.
+    fn is_sending(&self, waiting: &VecDeque<Message>) -> bool
+        requires queue { IsQueue self.now.limits self.now.past waiting.now.items }
+        ensures { result ≡ spec.is_sending self.now.side self.now.limits self.now.past }
+    {
+        self.is_agreed() && self.has_reason(!waiting.is_empty())
+    }
+
+    /// Whether an agreed end sends, where a piece waits or none does.
+    fn has_reason(&self, waits: bool) -> bool
+        ensures { result ≡ spec.sends (count.credits_held self.now.side self.now.past) (count.receives_outstanding self.now.side self.now.past)
+            (count.receives_grantable self.now.side self.now.past) waits (spec.is_response_owed self.now.past) }
+    {
+        self.held >= 1
+            && (waits || self.response_owed || (self.outstanding <= 1 && self.grantable >= 1))
+            && (self.held != 1 || self.grantable >= 1)
+    }
+
+    /// The data transfer message that is due, while these messages wait to be sent.
+    fn frame_due(&self, alloc: Global, waiting: &VecDeque<Message>) -> Result<Frame, NoMemory>
+        requires queue { IsQueue self.now.limits self.now.past waiting.now.items }
+        ensures { IfOk result (λ f. f ≡ spec.frame_due self.now.side self.now.limits self.now.past) }
+    {
+        let Some(message) = waiting.front() else {
+            return frames::data_frame(alloc, &self.header(false, 0), &[]);
+        };
+        let header = self.header(self.asks_for_response(waiting.len()), message.len());
+        frames::data_frame(alloc, &header, message.bytes())
+    }
+
+    /// Whether the next frame asks for a response, where so many messages wait: a piece waits after it, and it
+    /// leaves one credit or none.
+    fn asks_for_response(&self, waiting: usize) -> bool
+        ensures { result ≡ (nat_lt 1 waiting && nat_le (count.credits_held self.now.side self.now.past) 2) }
+    {
+        waiting > 1 && self.held <= 2
+    }
+
+    /// The header of a data transfer message with the last piece of a message, of so many bytes. It grants all that
+    /// can be granted.
+    fn header(&self, response_requested: bool, length: usize) -> Header
+        requires { length ≤ spec.payload_size self.now.limits }
+        ensures { result ≡ record {
+          credits_requested = self.now.limits.credits;
+          credits_granted = count.receives_grantable self.now.side self.now.past;
+          response_requested = response_requested;
+          remaining = 0;
+          length = length;
+        } }
+    {
+        Header {
+            credits_requested: self.limits.credits(),
+            credits_granted: self.grantable,
+            response_requested,
+            remaining: 0,
+            length: length as u32,
+        }
+    }
+
+    /// Makes room for so many events more.
+    pub fn reserve(&mut self, room: usize) -> Result<(), NoMemory>
+        ensures same { self.new ≡ record self.old { room = self.new.room } }
+        ensures room { OnOk result (room ≤ self.new.room) }
+        ensures kept { self.old.room ≤ self.new.room }
+    {
+        self.history.reserve(room)
+    }
+
+    /// Adds the Post of the one receive that is due.
+    pub fn add_post(&mut self)
+        requires room { 0 < self.old.room }
+        requires due { spec.next_event self.old.side self.old.limits self.old.past ≡ due.Post 1 }
+        ensures { self.new ≡ record self.old { past = events.Post 1 ∷ self.old.past; room = self.old.room - 1 } }
+    {
+        self.history.push(Event::Post(1));
+        self.grantable += 1;
+        self.post_due = false;
+    }
+
+    /// Adds the Submit of a message that is not refused.
+    pub fn add_submit(&mut self, message: Message)
+        requires room { 0 < self.old.room }
+        requires follows { spec.submit_fault self.old.side self.old.limits self.old.past message ≡ None }
+        ensures { self.new ≡ record self.old { past = events.Submit message ∷ self.old.past; room = self.old.room - 1 } }
+    {
+        self.history.push(Event::Submit(message));
+    }
+
+    /// Adds the Emit of the frame that is due.
+    pub fn add_emit(&mut self, frame: Frame)
+        requires room { 0 < self.old.room }
+        requires due { spec.next_event self.old.side self.old.limits self.old.past ≡ due.Emit frame }
+        ensures { self.new ≡ record self.old { past = events.Emit frame ∷ self.old.past; room = self.old.room - 1 } }
+    {
+        let granted = frame.granted(self.side, !self.spoken);
+        self.history.push(Event::Emit(frame));
+        self.held -= 1;
+        self.outstanding += granted;
+        self.grantable -= granted;
+        self.spoken = true;
+        self.response_owed = false;
+    }
+
+    /// Adds the Take of a frame, which is refused or not.
+    pub fn add_take(&mut self, frame: Frame, refused: bool)
+        requires room { 0 < self.old.room }
+        requires ready { spec.is_ready self.old.side self.old.limits self.old.past ≡ true }
+        requires fault { refused ≡ is_some (spec.take_fault self.old.side self.old.limits self.old.past frame) }
+        ensures { self.new ≡ record self.old { past = events.Take frame ∷ self.old.past; room = self.old.room - 1 } }
+    {
+        let held = self.held_after(&frame);
+        let outstanding = self.outstanding_after(&frame);
+        let welcomed = self.welcomed_after(&frame, refused);
+        let response_owed = self.response_owed_after(&frame);
+        self.history.push(Event::Take(frame));
+        self.held = held;
+        self.outstanding = outstanding;
+        self.standing = if refused {
+            Standing::Refused
+        } else {
+            Standing::Open
+        };
+        self.heard = true;
+        self.welcomed = welcomed;
+        self.post_due = true;
+        self.response_owed = response_owed;
+    }
+
+    /// Adds the Cut of an end that is not cut.
+    pub fn add_cut(&mut self)
+        requires room { 0 < self.old.room }
+        requires uncut { spec.is_cut self.old.past ≡ false }
+        ensures { self.new ≡ record self.old { past = events.Cut ∷ self.old.past; room = self.old.room - 1 } }
+    {
+        self.history.push(Event::Cut);
+        self.standing = Standing::Cut;
+        self.post_due = false;
+    }
+
+    fn held_after(&self, frame: &Frame) -> u16
+        ensures { result ≡ count.credits_held self.now.side (events.Take frame.now ∷ self.now.past) }
+    {
+        if self.is_out_of_turn() {
+            self.held
+        } else {
+            let peer = match self.side {
+                EndId::Client => EndId::Server,
+                EndId::Server => EndId::Client,
+            };
+            self.held.saturating_add(frame.granted(peer, !self.heard))
+        }
+    }
+
+    fn outstanding_after(&self, frame: &Frame) -> u16
+        ensures { result ≡ count.receives_outstanding self.now.side (events.Take frame.now ∷ self.now.past) }
+    {
+        if self.is_out_of_turn() {
+            self.outstanding
+        } else {
+            self.outstanding - 1
+        }
+    }
+
+    fn welcomed_after(&self, frame: &Frame, refused: bool) -> bool
+        requires { refused ≡ is_some (spec.take_fault self.now.side self.now.limits self.now.past frame.now) }
+        ensures { result ≡ spec.is_welcomed self.now.side self.now.limits (events.Take frame.now ∷ self.now.past) }
+    {
+        if self.heard { self.welcomed } else { !refused }
+    }
+
+    fn response_owed_after(&self, frame: &Frame) -> bool
+        ensures { result ≡ spec.is_response_owed (events.Take frame.now ∷ self.now.past) }
+    {
+        (self.heard && frames::asks(frame.bytes())) || self.response_owed
+    }
+}
