@@ -1,0 +1,64 @@
+-- What the promise of a copy says where nothing fails.
+use Rattle.std.proofs.Common.{◌≡◌, ◌⊎◌, inl, inr, ℕ, ◌+◌, ◌<◌, ◌≤◌, Option, Some, None, List, [], ◌∷◌, ◌++◌, length, refl, sym, ap, ◌∙◌, subst, length-append, arith}
+use Rattle.std.proofs.lemmas.List.{append-nil}
+use Rattle.std.specs.Io.KnownBytes.{Appends, Consumes, IsAtEnd}
+use Rattle.smbd_outside.specs.declared.status.Status.{Status}
+use Rattle.smbd_outside.specs.declared.status.Status.TheVariants.{Done, Usage, ReadFault, WriteFault, LogFault, TooLong, Cut, BadInput, NoMemory}
+use Rattle.smbd_cli.specs.Promise.{Stream, Course, KeepsPromise, IsFair, IsCopied}
+
+-- no more was read than there was
+read_most : (before now : Option (List ℕ)) (bytes read : List ℕ) → before ≡ Some bytes → Consumes before now read → length read ≤ length bytes
+read_most None now bytes read told c = absurd cc
+read_most (Some all) None bytes read told c = absurd c
+read_most (Some all) (Some left) bytes read told c =
+    let same : all ≡ bytes = cc in
+    omega (arith, length-append read left, ap length c, ap length same)
+
+-- what was read to the end is all that there was
+read_all : (before now : Option (List ℕ)) (bytes read : List ℕ) → before ≡ Some bytes → Consumes before now read → IsAtEnd now → read ≡ bytes
+read_all None now bytes read told c at_end = absurd cc
+read_all (Some all) None bytes read told c at_end = absurd c
+read_all (Some all) (Some left) bytes read told c at_end =
+    let same : all ≡ bytes = cc in
+    sym (append-nil read) ∙ ap (λ (t : List ℕ). read ++ t) (sym at_end) ∙ sym c ∙ same
+
+pub completes : (status : Status) (source sink log : Stream) (bytes : List ℕ) → KeepsPromise status source sink log → IsFair source sink log bytes
+    → (status ≡ Done) ⊎ (status ≡ NoMemory)
+completes Done source sink log bytes k fair = inl refl
+completes NoMemory source sink log bytes k fair = inr refl
+completes ReadFault source sink log bytes k fair = absurd (fair.reads k.ends.3)
+completes WriteFault source sink log bytes k fair = absurd (fair.writes k.ends.2)
+completes LogFault source sink log bytes k fair = absurd (fair.logs k.ends.3)
+completes TooLong source sink log bytes k fair =
+    absurd (let most = read_most source.before source.now bytes k.course.bytes fair.told k.moves.read in let long = k.ends.1 in let short = fair.short in omega arith)
+completes Usage source sink log bytes k fair = absurd k.ends
+completes Cut source sink log bytes k fair = absurd k.ends
+completes (BadInput line) source sink log bytes k fair = absurd k.ends
+
+pub copies : (status : Status) (source sink log : Stream) (bytes : List ℕ) → KeepsPromise status source sink log → source.before ≡ Some bytes → status ≡ Done → IsCopied source sink bytes
+copies Done source sink log bytes k told is =
+    let all = read_all source.before source.now bytes k.course.bytes told k.moves.read k.ends.1 in
+    record {
+      at_end = k.ends.1;
+      got = subst (λ (bs : List ℕ). Appends sink.before sink.now bs) (k.ends.0.stored ∙ all) k.moves.stored;
+    }
+copies NoMemory source sink log bytes k told is = absurd (let b : ⊥ = cc in b)
+copies ReadFault source sink log bytes k told is = absurd (let b : ⊥ = cc in b)
+copies WriteFault source sink log bytes k told is = absurd (let b : ⊥ = cc in b)
+copies LogFault source sink log bytes k told is = absurd (let b : ⊥ = cc in b)
+copies TooLong source sink log bytes k told is = absurd (let b : ⊥ = cc in b)
+copies Usage source sink log bytes k told is = absurd (let b : ⊥ = cc in b)
+copies Cut source sink log bytes k told is = absurd (let b : ⊥ = cc in b)
+copies (BadInput line) source sink log bytes k told is = absurd (let b : ⊥ = cc in b)
+
+-- a copy never answers that the words name no command
+pub never_usage : (status : Status) (source sink log : Stream) → KeepsPromise status source sink log → status ≡ Usage → ⊥
+never_usage Usage source sink log k is = k.ends
+never_usage Done source sink log k is = cc
+never_usage NoMemory source sink log k is = cc
+never_usage ReadFault source sink log k is = cc
+never_usage WriteFault source sink log k is = cc
+never_usage LogFault source sink log k is = cc
+never_usage TooLong source sink log k is = cc
+never_usage Cut source sink log k is = cc
+never_usage (BadInput line) source sink log k is = cc

@@ -1,0 +1,9 @@
+pub mod Calling
+pub mod Carrying
+pub mod Completing
+pub mod Exchanging
+pub mod LineLemmas
+pub mod Logging
+pub mod Negotiating
+pub mod Promising
+pub mod Wording

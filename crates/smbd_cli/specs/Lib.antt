@@ -1,0 +1,9 @@
+pub mod Carried
+pub mod Command
+pub mod FileMessages
+pub mod Lines
+pub mod LogText
+pub mod Promise
+pub mod Put
+pub mod PutRun
+pub mod Settled

@@ -1,0 +1,48 @@
+-- The lines of a log (this project's own). A past is a list of events, the newest one first.
+use Rattle.std.specs.Prelude.{ℕ, ◌+◌, List, [], ◌∷◌, ◌++◌, length, codes, decimal}
+use Rattle.hex.specs.Hex.{encode_lower}
+use Rattle.smbd_base.specs.declared.end_id.EndId.{EndId}
+use Rattle.smbd_base.specs.declared.end_id.EndId.TheVariants.{Client, Server}
+use Rattle.smbd_base.specs.declared.event.Event.{Event}
+use Rattle.smbd_base.specs.declared.event.Event.TheVariants.{Post, Submit, Emit, Take, Cut}
+
+-- the letter of a side
+abbrev pub letter_of : EndId → List ℕ
+letter_of Client = codes "C"
+letter_of Server = codes "S"
+
+-- The line of an event, with its line feed. A frame that is sent stands in it whole, as hex; a frame that is taken goes
+-- by its number, from 1, and its length.
+abbrev pub line_of : EndId → ℕ → Event → List ℕ
+line_of side number (Post n) = letter_of side ++ (codes " post " ++ (decimal n ++ codes "\n"))
+line_of side number (Submit m) = letter_of side ++ (codes " submit " ++ (decimal (length m) ++ codes "\n"))
+line_of side number (Emit f) = letter_of side ++ (codes " emit " ++ (encode_lower f ++ codes "\n"))
+line_of side number (Take f) = letter_of side ++ (codes " take " ++ (decimal number ++ (codes " " ++ (decimal (length f) ++ codes "\n"))))
+line_of side number Cut = letter_of side ++ codes " cut\n"
+
+-- the frames that were taken, refused or not
+abbrev pub take_count : List Event → ℕ
+take_count [] = 0
+take_count (Post n ∷ past) = take_count past
+take_count (Submit m ∷ past) = take_count past
+take_count (Emit f ∷ past) = take_count past
+take_count (Take f ∷ past) = take_count past + 1
+take_count (Cut ∷ past) = take_count past
+
+-- the lines of a history, the oldest one first
+abbrev pub lines_of : EndId → List Event → List (List ℕ)
+lines_of side [] = []
+lines_of side (e ∷ past) = lines_of side past ++ line_of side (take_count past + 1) e ∷ []
+
+-- the number of the next frame that is taken
+abbrev pub next_number : ℕ → Event → ℕ
+next_number number (Post n) = number
+next_number number (Submit m) = number
+next_number number (Emit f) = number
+next_number number (Take f) = number + 1
+next_number number Cut = number
+
+-- the lines of events in the order of time, the first frame that is taken having this number
+abbrev pub lines_from : EndId → ℕ → List Event → List (List ℕ)
+lines_from side number [] = []
+lines_from side number (e ∷ events) = line_of side number e ∷ lines_from side (next_number number e) events

@@ -1,0 +1,130 @@
+-- The promise of a copy (this project's own). A past is a list of events, the newest one first.
+use Rattle.std.specs.Prelude.{◌≡◌, ◌⊎◌, ℕ, ◌*◌, ◌/◌, ◌<◌, ◌≤◌, ◌++◌, Bool, true, Option, Some, List, [], length, take, map, if◌then◌else◌}
+use Rattle.std.specs.Io.KnownBytes.{Appends, Consumes, IsAtEnd}
+use mathlib.Core.List.{IsPrefix}
+use Rattle.smbd_base.specs.declared.end_id.EndId.TheVariants.{Client, Server}
+use Rattle.smbd_base.specs.declared.event.Event.{Event}
+use Rattle.smbd_base.specs.Limits.{usual_limits}
+use Rattle.smbd_base.specs.History.{messages_submitted}
+use Rattle.smbd_base.specs.Delivery.{messages_delivered}
+use Rattle.smbd_base.specs.Joint.{AreJoint}
+use Rattle.smbd_outside.specs.declared.status.Status.{Status}
+use Rattle.smbd_outside.specs.declared.status.Status.TheVariants.{Done, Usage, ReadFault, WriteFault, LogFault, TooLong, Cut, BadInput, NoMemory}
+use Rattle.smbd_outside.specs.Causes.{Rose}
+use Rattle.smbd_cli.specs.LogText.{IsLog, BeginsLog}
+use Rattle.smbd_cli.specs.PutRun.{groups, groups_count, write_of, put_requests, put_replies}
+
+-- ---- what a copy was handed
+
+-- what a source, a sink or a log tells and counts, before the call and after it
+pub record Stream : Type 0 where
+  pub before : Option (List ℕ)
+  pub now : Option (List ℕ)
+  pub faults_before : ℕ
+  pub faults : ℕ
+
+abbrev pub stream_of : {A : Type 0} → (A → Option (List ℕ)) → (A → ℕ) → A → A → Stream
+stream_of {A} known count old new = record { before = known old; now = known new; faults_before = count old; faults = count new }
+
+-- ---- what a copy came to
+
+-- the histories of both ends, the bytes that were read and whether their end was seen, the bytes that the sink got,
+-- and the text that the log got
+pub record Course : Type 0 where
+  pub client : List Event
+  pub server : List Event
+  pub bytes : List ℕ
+  pub ended : Bool
+  pub stored : List ℕ
+  pub text : List ℕ
+
+-- these are what the source lost, and what the sink and the log gained
+pub record Moves (source sink log : Stream) (c : Course) : Type 0 where
+  pub read : Consumes source.before source.now c.bytes
+  pub stored : Appends sink.before sink.now c.stored
+  pub logged : Appends log.before log.now c.text
+
+-- the bytes of which requests can be made: whole groups, where the end was not seen
+abbrev pub usable : Bool → List ℕ → List ℕ
+usable ended bytes = if ended then bytes else take (length bytes / 65536 * 65536) bytes
+
+-- the run of a put without registered pages, of which there are no page events
+pub record IsPutRun (c : Course) : Type 0 where
+  -- the client submits the requests for the bytes, in order, and END only where their end was seen
+  pub requests : IsPrefix (messages_submitted c.client) (put_requests c.ended (usable c.ended c.bytes))
+  -- the server submits the replies, in order, each after its request was delivered
+  pub replies : IsPrefix (messages_submitted c.server) (put_replies c.ended (usable c.ended c.bytes))
+  pub answered : length (messages_submitted c.server) ≤ length (messages_delivered Server usual_limits c.server)
+  -- the sink gets the bytes in order, each group after the WRITE that brought it was delivered
+  pub stores : IsPrefix c.stored c.bytes
+  pub brought : IsPrefix (map write_of (take (groups_count c.stored) (groups c.bytes))) (messages_delivered Server usual_limits c.server)
+
+-- what holds of a copy however it ends
+pub record IsSound (c : Course) : Type 0 where
+  -- both ends follow their rules, no frame was refused, and each took what the other sent, in order
+  pub joint : AreJoint usual_limits usual_limits c.client c.server
+  -- each end delivers a front of the messages that its peer submitted: whole, once and in order
+  pub to_server : IsPrefix (messages_delivered Server usual_limits c.server) (messages_submitted c.client)
+  pub to_client : IsPrefix (messages_delivered Client usual_limits c.client) (messages_submitted c.server)
+  pub put : IsPutRun c
+
+-- ---- how a copy ends
+
+-- no more was read than may be copied
+abbrev pub IsShort : Course → Type 0
+IsShort c = length c.bytes ≤ 1316
+
+-- the log tells both histories, whole
+abbrev pub IsLogged : Course → Type 0
+IsLogged c = IsLog c.client c.server c.text
+
+-- the log got a front of such a text
+abbrev pub IsLogCut : Course → Type 0
+IsLogCut c = BeginsLog c.client c.server c.text
+
+-- nothing is missing: the source was read to its end, the sink got just its bytes, and END's reply was taken
+pub record IsWhole (c : Course) : Type 0 where
+  pub logged : IsLogged c
+  pub short : IsShort c
+  pub ended : c.ended ≡ true
+  pub stored : c.stored ≡ c.bytes
+  pub answered : messages_delivered Client usual_limits c.client ≡ put_replies true c.bytes
+
+-- when each status comes, and what it leaves
+abbrev pub Ends : Status → Stream → Stream → Stream → Course → Type 0
+Ends Done source sink log c = IsWhole c × IsAtEnd source.now
+Ends ReadFault source sink log c = IsLogged c × IsShort c × (c.stored ≡ []) × Rose source.faults_before source.faults
+Ends WriteFault source sink log c = IsLogged c × IsShort c × Rose sink.faults_before sink.faults
+Ends LogFault source sink log c = IsLogCut c × IsShort c × (c.stored ≡ []) × Rose log.faults_before log.faults
+Ends TooLong source sink log c = IsLogged c × (1316 < length c.bytes) × (c.stored ≡ [])
+Ends NoMemory source sink log c = IsLogCut c × IsShort c × (c.stored ≡ [])
+Ends Usage source sink log c = ⊥
+Ends Cut source sink log c = ⊥
+Ends (BadInput line) source sink log c = ⊥
+
+-- The promise: the log tells the actual histories of both ends; each end delivers a front of what its peer submitted;
+-- each status has its cause; and with Done the sink got exactly what the source had.
+pub record KeepsPromise (status : Status) (source sink log : Stream) : Type 0 where
+  pub course : Course
+  pub moves : Moves source sink log course
+  pub sound : IsSound course
+  pub ends : Ends status source sink log course
+
+-- ---- a copy succeeds
+
+-- no fault was counted
+abbrev pub IsSilent : Stream → Type 0
+IsSilent s = Rose s.faults_before s.faults → ⊥
+
+-- neither source, sink nor log fails, and the source tells its bytes, of which there are no more than may be copied
+pub record IsFair (source sink log : Stream) (bytes : List ℕ) : Type 0 where
+  pub told : source.before ≡ Some bytes
+  pub short : length bytes ≤ 1316
+  pub reads : IsSilent source
+  pub writes : IsSilent sink
+  pub logs : IsSilent log
+
+-- the source is at its end, and the sink got what the source had
+pub record IsCopied (source sink : Stream) (bytes : List ℕ) : Type 0 where
+  pub at_end : IsAtEnd source.now
+  pub got : Appends sink.before sink.now bytes

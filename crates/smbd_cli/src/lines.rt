@@ -1,0 +1,69 @@
+//! The lines of a log.
+
+ghost use Rattle.std.specs.Prelude.{◌≡◌, ◌++◌, ◌+◌, ◌<◌, ◌^◌, string_bytes, OnOk};
+ghost use Rattle.smbd_cli.specs.Lines as spec;
+ghost use Rattle.smbd_cli.specs.LogText.{text_of};
+
+use smbd_base::{EndId, Event, NoMemory};
+use std::alloc::Global;
+
+/// Adds the line of an event; `number` is the number of the taken frame, and counts for a Take alone.
+fn add_line(
+    alloc: Global,
+    text: &mut String,
+    side: EndId,
+    number: u64,
+    event: &Event,
+) -> Result<(), NoMemory>
+    ensures { OnOk result (string_bytes text.new ≡ string_bytes text.old ++ spec.line_of side number event.now) }
+{
+    let letter = match side {
+        EndId::Client => "C",
+        EndId::Server => "S",
+    };
+    match event {
+        Event::Post(receives) => write!(text, "{letter} post {receives}\n")?,
+        Event::Submit(message) => {
+            let length = message.len();
+            write!(text, "{letter} submit {length}\n")?;
+        }
+        Event::Emit(frame) => {
+            let digits = hex::encode(alloc, frame.bytes())?;
+            write!(text, "{letter} emit {digits}\n")?;
+        }
+        Event::Take(frame) => {
+            let length = frame.len();
+            write!(text, "{letter} take {number} {length}\n")?;
+        }
+        Event::Cut => write!(text, "{letter} cut\n")?,
+    }
+    Ok(())
+}
+
+/// Adds the lines of events, before which no frame was taken.
+pub fn add_lines(
+    alloc: Global,
+    text: &mut String,
+    side: EndId,
+    events: &[Event],
+) -> Result<(), NoMemory>
+    ensures { OnOk result (string_bytes text.new ≡ string_bytes text.old ++ text_of (spec.lines_from side 1 events.now)) }
+{
+    let mut number = 1;
+    for event in events {
+        add_line(alloc, text, side, number, event)?;
+        number = next_number(number, event);
+    }
+    Ok(())
+}
+
+/// The number of the next frame that is taken, after this event.
+fn next_number(number: u64, event: &Event) -> u64
+    requires { number + 1 < 2 ^ 64 }
+    ensures { result ≡ spec.next_number number event.now }
+{
+    match event {
+        Event::Take(_) => number + 1,
+        _ => number,
+    }
+}

@@ -1,0 +1,42 @@
+//! What a copy is asked to do.
+
+use smbd_base::EndLimits;
+
+/// Which way the bytes go: from the client to the server, or back.
+#[derive(Clone, Copy, Debug, PartialEq, Eq)]
+pub enum CopyKind {
+    Put,
+    Get,
+}
+
+/// How the bytes travel: in the requests and replies themselves, or through registered pages by RDMA
+/// (SMB2_CHANNEL_NONE and SMB2_CHANNEL_RDMA_V1 of MS-SMB2).
+#[derive(Clone, Copy, Debug, PartialEq, Eq)]
+pub enum Channel {
+    None,
+    V1,
+}
+
+/// How a copy is made.
+#[derive(Clone, Copy, Debug, PartialEq, Eq)]
+pub struct CopyOptions {
+    pub kind: CopyKind,
+    pub channel: Channel,
+    /// The workers of each end, 1 to 8.
+    pub workers: u8,
+    /// The limits of both ends.
+    pub limits: EndLimits,
+    /// Where it is told, the client cuts the link in the place of the frame of this number, from 1.
+    pub cut: Option<u32>,
+}
+
+/// A copy from the source to the sink, or one of a made input into memory.
+#[derive(Clone, Copy, Debug, PartialEq, Eq)]
+pub enum CopyCommand {
+    Copy(CopyOptions),
+    Load {
+        first: u8,
+        length: u32,
+        options: CopyOptions,
+    },
+}
