@@ -1,8 +1,8 @@
 //! What the connection reads from and writes to, and how a program ends.
 //!
-//! A source, a sink and a log count their faults, so that a contract can tell a fault of the outside from one that
-//! was made up: an answer that names a fault comes only where the count rose. A count stays at 2^64 - 1, and is
-//! said to have risen there too.
+//! Sources and sinks count their faults (a log is a sink), so that a contract can tell a fault of the outside from
+//! one that was made up: an answer that names a fault comes only where the count rose. A count stays at 2^64 - 1,
+//! and is said to have risen there too.
 #![tactic(auto)]
 
 mod failed;

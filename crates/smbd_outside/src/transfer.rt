@@ -18,7 +18,8 @@ pub enum Filled {
     End,
 }
 
-/// Writes the whole piece, which may be empty. At `Failed` the sink got a front of it. It takes no memory.
+/// Writes the whole piece, which may be empty. At `Failed` a sink that tells its bytes got a front of the piece.
+/// It takes no memory.
 pub fn write_whole<K: Sink>(sink: &mut K, piece: &[u8]) -> Result<(), Failed>
     ensures whole { OnOk result (Appends (K.written sink.old) (K.written sink.new) piece.now) }
     ensures front { OnErr result (AppendsFront (K.written sink.old) (K.written sink.new) piece.now) }
@@ -35,7 +36,7 @@ pub fn write_whole<K: Sink>(sink: &mut K, piece: &[u8]) -> Result<(), Failed>
 }
 
 /// Reads until `bytes` has `most` bytes or the source ended. At `Failed` the buffer keeps what was read before.
-/// It takes no memory, as the buffer has room for `most` bytes.
+/// It takes no memory, as the buffer has room for `most` bytes, and leaves the buffer its room.
 pub fn fill<S: Source>(source: &mut S, bytes: &mut Vec<u8>, most: usize) -> Result<Filled, Failed>
     requires room { most ≤ vec_capacity bytes.old }
     requires within { length bytes.old.items ≤ most }
@@ -45,6 +46,7 @@ pub fn fill<S: Source>(source: &mut S, bytes: &mut Vec<u8>, most: usize) -> Resu
     ensures short { (result ≡ Ok Filled.Full → ⊥) → length bytes.new.items < most }
     ensures end { result ≡ Ok Filled.End → IsAtEnd (S.left source.new) }
     ensures cause { HasCause (S.faults source.old) (S.faults source.new) result }
+    ensures room { vec_capacity bytes.old ≤ vec_capacity bytes.new }
 {
     let start = bytes.len();
     bytes.resize(most, 0).unwrap();

@@ -9,7 +9,7 @@ use std::io::Write;
 use std::marker::Model;
 
 /// A sink over std's writer, which counts each of its errors, and each write that takes no byte of a piece.
-/// It never flushes: a writer that keeps bytes back in a buffer may lose them after the last answer.
+/// It never flushes, so the writer is to keep no bytes back in a buffer, where they could fail after the last answer.
 /// Contracts see the writer and the count.
 #[derive(Debug, Drop)]
 pub struct WriteSink<W> {
