@@ -1,0 +1,11 @@
+//! Laws of one history and of two joint histories, each the contract of a function that does nothing.
+#![tactic(auto)]
+
+mod delivery;
+mod pieces;
+
+pub use delivery::deliveries_are_splits;
+pub use pieces::{pieces_join, pieces_split_one_way};
+
+#[cfg(test)]
+mod tests;

@@ -1,0 +1,10 @@
+//! The laws may be called by anyone who cites them.
+
+use super::*;
+
+#[test]
+fn laws_are_called() {
+    pieces_split_one_way();
+    pieces_join();
+    deliveries_are_splits();
+}
