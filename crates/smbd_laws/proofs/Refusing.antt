@@ -1,7 +1,7 @@
 -- What it means that a frame is not refused.
-use Rattle.std.proofs.Common.{◌≡◌, ℕ, ◌<◌, ◌==◌, nat_lt, nat_eq, Bool, true, false, cond, List, length, Option, Some, None, is_none, Result, Ok, Err, refl, arith}
+use Rattle.std.proofs.Common.{◌≡◌, ℕ, ◌<◌, ◌≤◌, ◌==◌, nat_lt, nat_eq, Bool, true, false, cond, List, length, Option, Some, None, is_none, Result, Ok, Err, refl, arith}
 use Rattle.std.proofs.lemmas.Bool.Decides.{nat_tests}
-use lib.Pointwise.{pointwise}
+use lib.Pointwise.{pointwise, bytes_decides}
 use Rattle.smbd_base.specs.declared.end_id.EndId.{EndId}
 use Rattle.smbd_base.specs.declared.event.Event.{Event}
 use Rattle.smbd_base.specs.declared.faults.FrameFault.{FrameFault}
@@ -30,6 +30,25 @@ unfolding take_fault
 accepted_data side limits past frame e heard =
     last_test (is_out_of_turn side past) (nat_lt limits.receive_size (length frame)) (is_unheard past) (pointwise nat_eq frame (awaited_frame side limits))
     (faults.Oversize (length frame) limits.receive_size) (data_fault (data_frame_of frame)) e heard
+
+-- ---- a frame that is not refused
+
+-- the first frame
+pub taken-first : (side : EndId) (limits : Limits) (past : List Event) (frame : List ℕ) → is_out_of_turn side past ≡ false → length frame ≤ limits.receive_size
+    → is_unheard past ≡ true → frame ≡ awaited_frame side limits → take_fault side limits past frame ≡ None
+unfolding take_fault
+taken-first side limits past frame turn short unheard is =
+    let small : nat_lt limits.receive_size (length frame) ≡ false = grind (arith, nat_tests) in
+    let same : pointwise nat_eq frame (awaited_frame side limits) ≡ true = (bytes_decides frame (awaited_frame side limits)).1 is in
+    rw (turn, small, unheard, same) refl
+
+-- a later frame
+pub taken-later : (side : EndId) (limits : Limits) (past : List Event) (frame : List ℕ) → is_out_of_turn side past ≡ false → length frame ≤ limits.receive_size
+    → is_unheard past ≡ false → data_fault (data_frame_of frame) ≡ None → take_fault side limits past frame ≡ None
+unfolding take_fault
+taken-later side limits past frame turn short heard sound =
+    let small : nat_lt limits.receive_size (length frame) ≡ false = grind (arith, nat_tests) in
+    rw (turn, small, heard) sound
 
 -- ---- the piece that a frame brings
 

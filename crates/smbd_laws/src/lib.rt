@@ -1,10 +1,12 @@
 //! Laws of one history and of two joint histories, each the contract of a function that does nothing.
 #![tactic(auto)]
 
-mod delivery;
+mod deliveries;
+mod flight;
 mod pieces;
 
-pub use delivery::deliveries_are_splits;
+pub use deliveries::deliveries_are_splits;
+pub use flight::acceptance;
 pub use pieces::{pieces_join, pieces_split_one_way};
 
 #[cfg(test)]

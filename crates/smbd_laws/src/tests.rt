@@ -7,4 +7,5 @@ fn laws_are_called() {
     pieces_split_one_way();
     pieces_join();
     deliveries_are_splits();
+    acceptance();
 }

@@ -1,5 +1,5 @@
 use Rattle.smbd_laws.proofs.Gathering.{delivers, taken-filled}
-use Rattle.smbd_laws.proofs.delivery.deliveries_are_splits.Goals as goal
+use Rattle.smbd_laws.proofs.deliveries.deliveries_are_splits.Goals as goal
 
 pub returns-clause-split : goal.returns-clause-split
 returns-clause-split c = delivers

@@ -1,0 +1,19 @@
+//! The frames in flight between two ends (MS-SMBD 3.1.1: send credits and receive credits).
+
+ghost use Rattle.std.specs.Prelude.{◌≡◌, ◌++◌, ◌∷◌, ℕ, List, None};
+ghost use mathlib.Core.List.{IsPrefix};
+ghost use Rattle.smbd_base.specs.declared.end_id.EndId.{EndId as Side};
+ghost use Rattle.smbd_base.specs.declared.event.Event.{Event as Happening};
+ghost use Rattle.smbd_base.specs.Limits.{Limits, IsLawful};
+ghost use Rattle.smbd_base.specs.Counts.{peer_of};
+ghost use Rattle.smbd_base.specs.Joint.{emitted_frames, taken_frames};
+ghost use Rattle.smbd_base.specs.History.{take_fault, IsLegal};
+
+/// The next frame in flight to an end is not refused: where a sender that follows its rules took none but frames of the
+/// taker, and sent one more frame than the taker took, a receive waits for it, it is short enough, and it is the
+/// negotiation message that is awaited, or a data transfer message without a fault.
+pub fn acceptance()
+    ensures { (x : Side) (limits : Limits) (taker sender : List Happening) (frame : List ℕ) (rest : List (List ℕ)) → IsLawful limits
+        → IsLegal (peer_of x) limits sender → IsPrefix (taken_frames sender) (emitted_frames taker)
+        → emitted_frames sender ≡ taken_frames taker ++ frame ∷ rest → take_fault x limits taker frame ≡ None }
+{}
