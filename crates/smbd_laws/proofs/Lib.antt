@@ -5,3 +5,4 @@ pub mod Gathering
 pub mod Counting
 pub mod Sending
 pub mod Accepting
+pub mod Delivering

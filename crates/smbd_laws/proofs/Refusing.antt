@@ -76,3 +76,14 @@ brought-takeable side limits past frame = by_tests (is_unheard past) (is_none (t
   by_tests true accepted u a = rw u tt
   by_tests false true u a = rw (u, a) (takeable_in (data_frame_of frame) (accepted_data side limits past frame a u))
   by_tests false false u a = rw (u, a) tt
+
+-- a later frame that is not refused brings the piece in it
+pub brought-later : (side : EndId) (limits : Limits) (past : List Event) (frame : List ℕ) → is_unheard past ≡ false → take_fault side limits past frame ≡ None
+    → piece_brought side limits past frame ≡ piece_in (data_frame_of frame)
+brought-later side limits past frame heard accepted =
+    let is : is_none (take_fault side limits past frame) ≡ true = rw accepted refl in
+    rw (heard, is) refl
+
+-- the negotiation message brings none
+pub brought-first : (side : EndId) (limits : Limits) (past : List Event) (frame : List ℕ) → is_unheard past ≡ true → piece_brought side limits past frame ≡ None
+brought-first side limits past frame unheard = rw unheard refl

@@ -22,6 +22,7 @@ use Rattle.smbd_base.proofs.FrameLaws.{data_frame_of-empty, data_frame_of-filled
 use Rattle.smbd_base.proofs.Inversion.{Emits, emits, both, from_not}
 use Rattle.smbd_base.proofs.PieceLemmas.{whole, pieces_of-one}
 use Rattle.smbd_laws.proofs.Counting.{is_empty, silent_is}
+use Rattle.smbd_laws.proofs.Joining.{AreSome}
 
 -- ---- the pieces that are submitted
 
@@ -68,6 +69,21 @@ sendable side limits (Submit m ∷ past) legal =
 sendable side limits (Emit f ∷ past) legal = sendable side limits past legal.1
 sendable side limits (Take f ∷ past) legal = sendable side limits past legal.1
 sendable side limits (Cut ∷ past) legal = sendable side limits past legal.1
+
+some_more : (messages : List (List ℕ)) (m : List ℕ) → AreSome messages → 0 < length m → AreSome (messages ++ m ∷ [])
+some_more [] m s here = (here, tt)
+some_more (first ∷ messages) m s here = (s.0, some_more messages m s.1 here)
+
+-- no message that was submitted is empty
+pub submitted_some : (side : EndId) (limits : Limits) (past : List Event) → IsLegal side limits past → AreSome (messages_submitted past)
+submitted_some side limits [] legal = tt
+submitted_some side limits (Post n ∷ past) legal = submitted_some side limits past legal.1
+submitted_some side limits (Submit m ∷ past) legal =
+    let fits = submittable limits m (not (is_open side limits past)) (length m == 0) (nat_lt (message_limit limits) (length m)) refl refl legal.0 in
+    some_more (messages_submitted past) m (submitted_some side limits past legal.1) fits.some
+submitted_some side limits (Emit f ∷ past) legal = submitted_some side limits past legal.1
+submitted_some side limits (Take f ∷ past) legal = submitted_some side limits past legal.1
+submitted_some side limits (Cut ∷ past) legal = submitted_some side limits past legal.1
 
 -- ---- the frame that carries a piece
 

@@ -1,7 +1,8 @@
 -- How a list of pieces splits into messages.
 use Rattle.std.proofs.Common.{◌≡◌, ℕ, ◌+◌, ◌<◌, List, [], ◌∷◌, ◌++◌, length, map, refl, ap, sym, ◌∙◌, append_assoc, arith}
 use Rattle.std.specs.List.{flat_map}
-use Rattle.std.proofs.lemmas.List.{length-append}
+use Rattle.std.proofs.lemmas.List.{length-append, map-append}
+use mathlib.Core.List.{IsPrefix}
 use Rattle.smbd_base.specs.Pieces.{Piece, joined, IsRun, IsWhole, AreWhole, IsRest, AreFilled, SplitsInto}
 
 -- the pieces of these runs
@@ -92,3 +93,30 @@ pub one_way : (pieces : List Piece) (messages others : List (List ℕ)) (rest ot
 one_way pieces messages others rest other expected also filled s t =
     let h = same_runs s.runs t.runs rest other expected also s.whole t.whole s.last t.last (rw s.all at filled) (rw t.all at filled) (sym s.all ∙ t.all) in
     (s.each ∙ ap (λ (runs : List (List Piece)). map joined runs) h.runs_are ∙ sym t.each, h.rest_is, same_expected rest expected also s.last (rw (sym h.rest_is) at t.last))
+
+-- ---- the first pieces
+
+-- the runs at the front of pieces are the first of their runs
+front_runs : (runs others : List (List Piece)) (tail other : List Piece) (also : ℕ) → AreWhole runs → AreWhole others → IsRest also other
+    → AreFilled (pieces_in runs ++ tail) → AreFilled (pieces_in others ++ other) → pieces_in runs ++ tail ≡ pieces_in others ++ other → IsPrefix runs others
+front_runs [] others tail other also w v s filled full e = (others, refl)
+front_runs (run ∷ runs) [] tail other also w v s filled full e =
+    absurd (no_run_in_rest also other run (pieces_in runs ++ tail) s w.0 (sym e ∙ append_assoc run (pieces_in runs) tail))
+front_runs (run ∷ runs) (run' ∷ others) tail other also w v s filled full e =
+    let here : AreFilled (run ++ (pieces_in runs ++ tail)) = rw (append_assoc run (pieces_in runs) tail) at filled in
+    let there : AreFilled (run' ++ (pieces_in others ++ other)) = rw (append_assoc run' (pieces_in others) other) at full in
+    let h = same_run run (pieces_in runs ++ tail) run' (pieces_in others ++ other) w.0 v.0 here there
+    (sym (append_assoc run (pieces_in runs) tail) ∙ e ∙ append_assoc run' (pieces_in others) other) in
+    let k = front_runs runs others tail other also w.1 v.1 s
+    (filled_after run (pieces_in runs ++ tail) here) (filled_after run' (pieces_in others ++ other) there) h.back in
+    (k.0, (let a = h.front in let b = k.1 in cc))
+
+-- the first of some pieces split into the first of their messages
+pub split_front : (front more pieces : List Piece) (messages all : List (List ℕ)) (rest other : List Piece) (expected also : ℕ) → AreFilled pieces
+    → SplitsInto front messages rest expected → SplitsInto pieces all other also → front ++ more ≡ pieces → IsPrefix messages all
+split_front front more pieces messages all rest other expected also filled s t e =
+    let here : pieces_in s.runs ++ (rest ++ more) ≡ pieces = sym (append_assoc (pieces_in s.runs) rest more) ∙ ap (λ (ps : List Piece). ps ++ more) (sym s.all) ∙ e in
+    let k = front_runs s.runs t.runs (rest ++ more) other also s.whole t.whole t.last (rw (sym here) at filled) (rw t.all at filled) (here ∙ t.all) in (
+      map joined k.0,
+      ap (λ (ms : List (List ℕ)). ms ++ map joined k.0) s.each ∙ sym (map-append joined s.runs k.0) ∙ ap (λ (runs : List (List Piece)). map joined runs) k.1 ∙ sym t.each,
+    )

@@ -1,4 +1,4 @@
-//! The laws may be called by anyone who cites them.
+//! Whoever cites a law may call it.
 
 use super::*;
 
@@ -8,4 +8,5 @@ fn laws_are_called() {
     pieces_join();
     deliveries_are_splits();
     acceptance();
+    delivery();
 }
