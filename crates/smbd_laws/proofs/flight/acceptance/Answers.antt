@@ -1,0 +1,5 @@
+use Rattle.smbd_laws.proofs.Accepting.{accepted}
+use Rattle.smbd_laws.proofs.flight.acceptance.Goals as goal
+
+pub returns : goal.returns
+returns c = accepted
