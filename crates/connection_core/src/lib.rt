@@ -9,6 +9,8 @@ mod end;
 mod frames;
 mod history;
 mod refused;
+#[cfg(test)]
+mod tests;
 mod track;
 
 pub use end::End;

@@ -16,6 +16,8 @@ mod limits;
 mod message;
 mod next;
 mod no_memory;
+#[cfg(test)]
+mod tests;
 mod worked;
 
 pub use agreed::Agreed;

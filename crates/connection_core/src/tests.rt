@@ -1,0 +1,334 @@
+use crate::{Agreed, End, Next, SubmitFault, TakeFault};
+use smbd_base::{EndId, EndLimits, Frame, Message, NoMemory};
+use std::alloc::Global;
+use std::process::Abort;
+use std::test::Fail;
+
+/// The negotiate request and response of the usual limits.
+const REQUEST: &[u8] =
+    b"\x00\x01\x00\x01\x00\x00\xff\x00\x54\x05\x00\x00\x00\x20\x00\x00\x00\x00\x10\x00";
+
+const RESPONSE: &[u8] =
+    b"\x00\x01\x00\x01\x00\x01\x00\x00\xff\x00\xff\x00\x00\x00\x00\x00\x00\x00\x10\x00\x54\x05\x00\x00\x00\x20\x00\x00\x00\x00\x10\x00";
+
+/// The same with 3 credits.
+const REQUEST_3: &[u8] =
+    b"\x00\x01\x00\x01\x00\x00\x03\x00\x54\x05\x00\x00\x00\x20\x00\x00\x00\x00\x10\x00";
+
+const RESPONSE_3: &[u8] =
+    b"\x00\x01\x00\x01\x00\x01\x00\x00\x03\x00\x03\x00\x00\x00\x00\x00\x00\x00\x10\x00\x54\x05\x00\x00\x00\x20\x00\x00\x00\x00\x10\x00";
+
+/// What an end of 3 credits sends: with no payload, and with a message of one letter.
+const GRANTS_0: &[u8] =
+    b"\x03\x00\x00\x00\x00\x00\x00\x00\x00\x00\x00\x00\x00\x00\x00\x00\x00\x00\x00\x00";
+
+const GRANTS_2: &[u8] =
+    b"\x03\x00\x02\x00\x00\x00\x00\x00\x00\x00\x00\x00\x00\x00\x00\x00\x00\x00\x00\x00";
+
+const GRANTS_3: &[u8] =
+    b"\x03\x00\x03\x00\x00\x00\x00\x00\x00\x00\x00\x00\x00\x00\x00\x00\x00\x00\x00\x00";
+
+const A_GRANTS_3: &[u8] =
+    b"\x03\x00\x03\x00\x00\x00\x00\x00\x00\x00\x00\x00\x18\x00\x00\x00\x01\x00\x00\x00\x00\x00\x00\x00a";
+
+const B_ASKS: &[u8] =
+    b"\x03\x00\x00\x00\x01\x00\x00\x00\x00\x00\x00\x00\x18\x00\x00\x00\x01\x00\x00\x00\x00\x00\x00\x00b";
+
+const C_GRANTS_1: &[u8] =
+    b"\x03\x00\x01\x00\x00\x00\x00\x00\x00\x00\x00\x00\x18\x00\x00\x00\x01\x00\x00\x00\x00\x00\x00\x00c";
+
+/// What a client of the usual limits sends first for `abc`, and the same with five bytes of the message left.
+const ABC: &[u8] =
+    b"\xff\x00\xff\x00\x00\x00\x00\x00\x00\x00\x00\x00\x18\x00\x00\x00\x03\x00\x00\x00\x00\x00\x00\x00abc";
+
+const FIVE_LEFT: &[u8] =
+    b"\xff\x00\xff\x00\x00\x00\x00\x00\x05\x00\x00\x00\x18\x00\x00\x00\x03\x00\x00\x00\x00\x00\x00\x00abc";
+
+/// What is done to an end, and what it answers.
+#[derive(Clone, Copy, Debug)]
+enum Step<'a> {
+    /// It does what comes next, and posts so many receives.
+    Posts(u16),
+    /// It does what comes next, and sends this frame.
+    Sends(&'a [u8]),
+    /// Nothing comes next.
+    Idles,
+    /// Only a cut can follow.
+    Closes,
+    /// It accepts this message.
+    Accepts(&'a [u8]),
+    /// It hands this message back.
+    Declines(&'a [u8], SubmitFault),
+    /// It takes this frame, and delivers nothing.
+    Takes(&'a [u8]),
+    /// It takes this frame, and delivers this message.
+    Delivers(&'a [u8], &'a [u8]),
+    /// It hands this frame back.
+    Refuses(&'a [u8], TakeFault),
+    /// It is cut.
+    Cuts,
+    /// It holds, has outstanding and can grant so many credits.
+    Counts(u16, u16, u16),
+    /// The negotiation has settled this.
+    Settles(Option<Agreed>),
+    /// So many events have happened.
+    Lasts(usize),
+}
+
+fn drive(end: &mut End) -> Result<Next, NoMemory> {
+    let next = end.next()?;
+    if let Next::Post(_) | Next::Emit(_) = &next {
+        end.commit();
+    }
+    Ok(next)
+}
+
+/// Whether the end accepts the message, or hands it back with this fault.
+fn submits(
+    alloc: Global,
+    end: &mut End,
+    bytes: &[u8],
+    expected: Option<SubmitFault>,
+) -> Result<bool, NoMemory> {
+    Ok(match end.submit(Message::copy_of(alloc, bytes)?) {
+        Ok(()) => expected.is_none(),
+        Err(refused) => Some(refused.fault) == expected && refused.message.bytes() == bytes,
+    })
+}
+
+/// Whether the end takes the frame and delivers this message, or hands the frame back with this fault.
+fn takes(
+    rt: &impl Abort,
+    alloc: Global,
+    end: &mut End,
+    bytes: &[u8],
+    expected: Result<Option<&[u8]>, TakeFault>,
+) -> Result<bool, NoMemory> {
+    assert!(rt; end.ready());
+    Ok(match end.take(Frame::copy_of(alloc, bytes)?) {
+        Ok(Some(message)) => expected == Ok(Some(message.bytes())),
+        Ok(None) => expected == Ok(None),
+        Err(refused) => expected == Err(refused.fault) && refused.frame.bytes() == bytes,
+    })
+}
+
+fn does(rt: &impl Abort, alloc: Global, end: &mut End, step: Step<'_>) -> Result<bool, NoMemory> {
+    Ok(match step {
+        Step::Posts(n) => matches!(drive(end)?, Next::Post(count) if count == n),
+        Step::Sends(bytes) => matches!(drive(end)?, Next::Emit(frame) if frame.bytes() == bytes),
+        Step::Idles => matches!(drive(end)?, Next::Idle),
+        Step::Closes => matches!(drive(end)?, Next::Close),
+        Step::Accepts(bytes) => submits(alloc, end, bytes, None)?,
+        Step::Declines(bytes, fault) => submits(alloc, end, bytes, Some(fault))?,
+        Step::Takes(bytes) => takes(rt, alloc, end, bytes, Ok(None))?,
+        Step::Delivers(bytes, message) => takes(rt, alloc, end, bytes, Ok(Some(message)))?,
+        Step::Refuses(bytes, fault) => takes(rt, alloc, end, bytes, Err(fault))?,
+        Step::Cuts => {
+            end.cut();
+            true
+        }
+        Step::Counts(held, outstanding, grantable) => {
+            (end.held(), end.outstanding(), end.grantable()) == (held, outstanding, grantable)
+        }
+        Step::Settles(expected) => end.agreed() == expected,
+        Step::Lasts(events) => end.history().len() == events,
+    })
+}
+
+/// Has an end with these limits do each step in turn.
+fn follow(
+    rt: &impl Abort,
+    alloc: Global,
+    name: &str,
+    side: EndId,
+    limits: EndLimits,
+    steps: &[Step<'_>],
+) -> Result<(), NoMemory> {
+    let mut end = match side {
+        EndId::Client => End::open_client(alloc, limits)?,
+        EndId::Server => End::open_server(alloc, limits)?,
+    };
+    for step in steps {
+        assert!(rt; does(rt, alloc, &mut end, *step)?, "{name}: {step:?}");
+    }
+    Ok(())
+}
+
+fn agreed(read_write_max: Option<u32>) -> Agreed {
+    Agreed {
+        send_size: 1_364,
+        message_max: 1_048_576,
+        read_write_max,
+        credits_requested: 255,
+    }
+}
+
+#[test]
+fn an_end_of_the_usual_limits(rt: HostRuntime) -> Result<(), Fail> {
+    use EndId::{Client, Server};
+    use Step::*;
+    let cases: [(&str, EndId, &[Step]); 5] = [
+        (
+            "negotiates and is cut",
+            Client,
+            &[
+                Accepts(&[7; 1_340]),
+                Declines(&[7; 1_341], SubmitFault::TooLong),
+                Declines(&[], SubmitFault::Empty),
+                Sends(REQUEST),
+                Idles,
+                Settles(None),
+                Lasts(3),
+                Takes(RESPONSE),
+                Posts(1),
+                Counts(255, 0, 255),
+                Settles(Some(agreed(Some(1_048_576)))),
+                Cuts,
+                Idles,
+                Declines(b"abc", SubmitFault::Closed),
+            ],
+        ),
+        (
+            "takes nothing before its request",
+            Client,
+            &[Refuses(RESPONSE, TakeFault::OutOfTurn), Closes],
+        ),
+        (
+            "negotiates and takes a message",
+            Server,
+            &[
+                Idles,
+                Takes(REQUEST),
+                Posts(1),
+                Sends(RESPONSE),
+                Counts(0, 255, 0),
+                Settles(Some(agreed(None))),
+                Delivers(ABC, b"abc"),
+                Posts(1),
+                Idles,
+                Counts(255, 254, 1),
+            ],
+        ),
+        (
+            "refuses a piece",
+            Server,
+            &[
+                Takes(REQUEST),
+                Posts(1),
+                Sends(RESPONSE),
+                Refuses(FIVE_LEFT, TakeFault::Fragmented { remaining: 5 }),
+                Closes,
+                Declines(b"abc", SubmitFault::Closed),
+                Cuts,
+                Idles,
+            ],
+        ),
+        (
+            "refuses what is no request",
+            Server,
+            &[Refuses(ABC, TakeFault::NotFixed), Closes],
+        ),
+    ];
+    for (name, side, steps) in cases {
+        follow(&rt, rt.alloc(), name, side, EndLimits::usual(), steps)?;
+    }
+    Ok(())
+}
+
+#[test]
+fn an_end_of_three_credits(rt: HostRuntime) -> Result<(), Fail> {
+    use EndId::{Client, Server};
+    use Step::*;
+    let cases: [(&str, EndId, &[Step]); 5] = [
+        (
+            "grants with nothing to send",
+            Client,
+            &[
+                Sends(REQUEST_3),
+                Takes(RESPONSE_3),
+                Posts(1),
+                Sends(GRANTS_3),
+                Idles,
+                Counts(2, 3, 0),
+            ],
+        ),
+        (
+            "asks for a response, and keeps the last credit",
+            Client,
+            &[
+                Sends(REQUEST_3),
+                Takes(RESPONSE_3),
+                Posts(1),
+                Accepts(b"a"),
+                Accepts(b"b"),
+                Accepts(b"c"),
+                Sends(A_GRANTS_3),
+                Sends(B_ASKS),
+                Idles,
+                Counts(1, 3, 0),
+                Takes(GRANTS_2),
+                Posts(1),
+                Sends(C_GRANTS_1),
+                Counts(2, 3, 0),
+            ],
+        ),
+        (
+            "responds where it is asked",
+            Server,
+            &[
+                Takes(REQUEST_3),
+                Posts(1),
+                Sends(RESPONSE_3),
+                Delivers(A_GRANTS_3, b"a"),
+                Posts(1),
+                Idles,
+                Delivers(B_ASKS, b"b"),
+                Posts(1),
+                Sends(GRANTS_2),
+                Idles,
+                Delivers(C_GRANTS_1, b"c"),
+                Posts(1),
+                Idles,
+            ],
+        ),
+        (
+            "takes as many frames as it granted",
+            Server,
+            &[
+                Takes(REQUEST_3),
+                Posts(1),
+                Sends(RESPONSE_3),
+                Takes(GRANTS_0),
+                Posts(1),
+                Takes(GRANTS_0),
+                Posts(1),
+                Takes(GRANTS_0),
+                Posts(1),
+                Refuses(GRANTS_0, TakeFault::OutOfTurn),
+                Closes,
+            ],
+        ),
+        (
+            "refuses a frame that is too long",
+            Server,
+            &[
+                Takes(REQUEST_3),
+                Posts(1),
+                Sends(RESPONSE_3),
+                Refuses(
+                    &[0; 8_193],
+                    TakeFault::Oversize {
+                        length: 8_193,
+                        limit: 8_192,
+                    },
+                ),
+                Closes,
+            ],
+        ),
+    ];
+    let limits = EndLimits::check(3, 1_364, 8_192, 1_048_576, 64)?;
+    for (name, side, steps) in cases {
+        follow(&rt, rt.alloc(), name, side, limits, steps)?;
+    }
+    Ok(())
+}
