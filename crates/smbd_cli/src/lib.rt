@@ -14,3 +14,6 @@ pub use copy::run_copy;
 pub use options::{Channel, CopyCommand, CopyKind, CopyOptions};
 pub use program::run;
 pub use words::Word;
+
+#[cfg(test)]
+mod tests;

@@ -1,0 +1,244 @@
+use crate::{Word, run};
+use smbd_base::NoMemory;
+use smbd_outside::{MemorySink, MemorySource, Status};
+use std::alloc::Global;
+use std::test::Fail;
+
+const PUT: [&str; 3] = ["put", "--channel", "none"];
+
+/// What the log has once both ends are open.
+const OPENING: &[u8] = b"C post 255\nS post 255\n";
+
+/// The log of a put of `abc`.
+const LOG_OF_ABC: &[u8] = b"C post 255
+S post 255
+C emit 000100010000ff00540500000020000000001000
+C take 1 32
+C post 1
+C submit 27
+C emit ff00ff000000000000000000180000001b00000000000000010000000100000000000000000000000300000000000000616263
+C take 2 36
+C post 1
+C submit 24
+C emit ff0001000000000000000000180000001800000000000000030000000200000003000000000000000000000000000000
+C take 3 36
+C post 1
+S take 1 20
+S post 1
+S emit 0001000100010000ff00ff000000000000001000540500000020000000001000
+S take 2 51
+S post 1
+S submit 12
+S emit ff0001000000000000000000180000000c00000000000000018000000100000003000000
+S take 3 48
+S post 1
+S submit 12
+S emit ff0001000000000000000000180000000c00000000000000038000000200000000000000
+";
+
+/// The log of a put of nothing.
+const LOG_OF_NOTHING: &[u8] = b"C post 255
+S post 255
+C emit 000100010000ff00540500000020000000001000
+C take 1 32
+C post 1
+C submit 24
+C emit ff00ff000000000000000000180000001800000000000000030000000100000000000000000000000000000000000000
+C take 2 36
+C post 1
+S take 1 20
+S post 1
+S emit 0001000100010000ff00ff000000000000001000540500000020000000001000
+S take 2 48
+S post 1
+S submit 12
+S emit ff0001000000000000000000180000000c00000000000000038000000100000000000000
+";
+
+/// How the outside of a copy behaves: the most bytes that the source gives and the sink takes at once, the calls at
+/// which each fails (from 1), and the room of the sink and of the log.
+#[derive(Clone, Copy)]
+struct Outside<'a> {
+    most: u32,
+    source_fails: &'a [u32],
+    sink_fails: &'a [u32],
+    log_fails: &'a [u32],
+    sink_room: u32,
+    log_room: u32,
+}
+
+const FAIR: Outside<'static> = Outside {
+    most: 4_096,
+    source_fails: &[],
+    sink_fails: &[],
+    log_fails: &[],
+    sink_room: 4_096,
+    log_room: 16_384,
+};
+
+/// A copy that was run: how it ended, and what the sink and the log got.
+#[derive(Drop)]
+struct Ran {
+    status: Status,
+    sink: MemorySink,
+    log: MemorySink,
+}
+
+fn words_of(alloc: Global, texts: &[&str]) -> Result<Vec<Word>, NoMemory> {
+    let mut words = Vec::new(alloc);
+    for text in texts {
+        words.push(Word::copy_of(alloc, text)?)?;
+    }
+    Ok(words)
+}
+
+fn copied(
+    alloc: Global,
+    texts: &[&str],
+    bytes: &[u8],
+    outside: Outside<'_>,
+) -> Result<Ran, NoMemory>
+    requires { 1 ≤ outside.most }
+{
+    let words = words_of(alloc, texts)?;
+    let mut source = MemorySource::open(alloc, bytes, outside.most, outside.source_fails)?;
+    let mut sink = MemorySink::open(alloc, outside.sink_room, outside.most, outside.sink_fails)?;
+    let mut log = MemorySink::open(alloc, outside.log_room, outside.most, outside.log_fails)?;
+    let status = run(alloc, &words, &mut source, &mut sink, &mut log);
+    Ok(Ran { status, sink, log })
+}
+
+#[test]
+fn a_copy_gives_its_bytes_and_tells_its_faults(rt: HostRuntime) -> Result<(), Fail> {
+    let by_one = Outside { most: 1, ..FAIR };
+    let cases: [(&[u8], Outside<'_>, Status, &[u8], &[u8]); 9] = [
+        (b"", FAIR, Status::Done, b"", LOG_OF_NOTHING),
+        (b"abc", FAIR, Status::Done, b"abc", LOG_OF_ABC),
+        (b"abc", by_one, Status::Done, b"abc", LOG_OF_ABC),
+        (
+            b"abc",
+            Outside {
+                source_fails: &[1],
+                ..FAIR
+            },
+            Status::ReadFault,
+            b"",
+            OPENING,
+        ),
+        (
+            b"abc",
+            Outside {
+                source_fails: &[3],
+                ..by_one
+            },
+            Status::ReadFault,
+            b"",
+            OPENING,
+        ),
+        (
+            b"abc",
+            Outside {
+                sink_fails: &[1],
+                ..FAIR
+            },
+            Status::WriteFault,
+            b"",
+            LOG_OF_ABC,
+        ),
+        (
+            b"abc",
+            Outside {
+                sink_room: 2,
+                ..FAIR
+            },
+            Status::WriteFault,
+            b"ab",
+            LOG_OF_ABC,
+        ),
+        (
+            b"abc",
+            Outside {
+                log_fails: &[1],
+                ..FAIR
+            },
+            Status::LogFault,
+            b"",
+            b"",
+        ),
+        (
+            b"abc",
+            Outside {
+                log_room: 30,
+                ..FAIR
+            },
+            Status::LogFault,
+            b"",
+            b"C post 255\nS post 255\nC emit 0",
+        ),
+    ];
+    for (bytes, outside, status, sink, log) in cases {
+        assert!(rt; 1 <= outside.most);
+        let ran = copied(rt.alloc(), &PUT, bytes, outside)?;
+        assert_eq!(rt; ran.status, status);
+        assert_eq!(rt; ran.sink.taken(), sink);
+        assert_eq!(rt; ran.log.taken(), log);
+    }
+    Ok(())
+}
+
+#[test]
+fn a_copy_carries_1316_bytes_and_not_one_more(rt: HostRuntime) -> Result<(), Fail> {
+    let mut bytes = Vec::new(rt.alloc());
+    for number in 0..1_317u32 {
+        bytes.push((number % 251) as u8)?;
+    }
+    let longest = copied(rt.alloc(), &PUT, &bytes[..1_316], FAIR)?;
+    assert_eq!(rt; longest.status, Status::Done);
+    assert_eq!(rt; longest.sink.taken(), &bytes[..1_316]);
+
+    let longer = copied(rt.alloc(), &PUT, &bytes, FAIR)?;
+    assert_eq!(rt; longer.status, Status::TooLong);
+    assert_eq!(rt; longer.sink.taken(), b"".as_slice());
+    assert_eq!(rt; longer.log.taken(), OPENING);
+    Ok(())
+}
+
+#[test]
+fn other_words_are_refused_before_anything_is_read(rt: HostRuntime) -> Result<(), Fail> {
+    let cases: [&[&str]; 7] = [
+        &[],
+        &["put"],
+        &["put", "--channel"],
+        &["put", "--channel", "some"],
+        &["get", "--channel", "none"],
+        &["put", "--chanel", "none"],
+        &["put", "--channel", "none", "none"],
+    ];
+    for texts in cases {
+        let words = words_of(rt.alloc(), texts)?;
+        let mut source = MemorySource::open(rt.alloc(), b"abc", 1, &[1])?;
+        let mut sink = MemorySink::open(rt.alloc(), 9, 1, &[])?;
+        let mut log = MemorySink::open(rt.alloc(), 9, 1, &[])?;
+        let status = run(rt.alloc(), &words, &mut source, &mut sink, &mut log);
+        assert_eq!(rt; status, Status::Usage);
+        assert_eq!(rt; sink.taken(), b"".as_slice());
+        assert_eq!(rt; log.taken(), b"".as_slice());
+    }
+    Ok(())
+}
+
+/// Each allocation of the copy, failing in turn, ends it with `NoMemory`, a front of the log and nothing in the sink
+/// (`rt try --test --fail-alloc N`); those before the copy end the test.
+#[test]
+fn want_of_memory_ends_a_copy_with_fronts(rt: HostRuntime) -> Result<(), Fail> {
+    let ran = copied(rt.alloc(), &PUT, b"abc", FAIR)?;
+    assert!(rt; LOG_OF_ABC.starts_with(ran.log.taken()));
+    if ran.status == Status::Done {
+        assert_eq!(rt; ran.sink.taken(), b"abc".as_slice());
+        assert_eq!(rt; ran.log.taken(), LOG_OF_ABC);
+    } else {
+        assert_eq!(rt; ran.status, Status::NoMemory);
+        assert_eq!(rt; ran.sink.taken(), b"".as_slice());
+    }
+    Ok(())
+}
