@@ -1,3 +1,5 @@
+ghost use Rattle.std.specs.Prelude.{◌≤◌};
+
 use crate::{Word, run};
 use smbd_base::NoMemory;
 use smbd_outside::{MemorySink, MemorySource, Status};
@@ -186,16 +188,23 @@ fn a_copy_gives_its_bytes_and_tells_its_faults(rt: HostRuntime) -> Result<(), Fa
     Ok(())
 }
 
-#[test]
-fn a_copy_carries_1316_bytes_and_not_one_more(rt: HostRuntime) -> Result<(), Fail> {
-    let mut bytes = Vec::new(rt.alloc());
-    for number in 0..1_317u32 {
+/// So many bytes, of which no two neighbours are equal.
+fn some_bytes(alloc: Global, length: u32) -> Result<Vec<u8>, NoMemory> {
+    let mut bytes = Vec::new(alloc);
+    for number in 0..length {
         bytes.push((number % 251) as u8)?;
     }
-    let longest = copied(rt.alloc(), &PUT, &bytes[..1_316], FAIR)?;
-    assert_eq!(rt; longest.status, Status::Done);
-    assert_eq!(rt; longest.sink.taken(), &bytes[..1_316]);
+    Ok(bytes)
+}
 
+#[test]
+fn a_copy_carries_1316_bytes_and_not_one_more(rt: HostRuntime) -> Result<(), Fail> {
+    let bytes = some_bytes(rt.alloc(), 1_316)?;
+    let longest = copied(rt.alloc(), &PUT, &bytes, FAIR)?;
+    assert_eq!(rt; longest.status, Status::Done);
+    assert_eq!(rt; longest.sink.taken(), bytes.as_slice());
+
+    let bytes = some_bytes(rt.alloc(), 1_317)?;
     let longer = copied(rt.alloc(), &PUT, &bytes, FAIR)?;
     assert_eq!(rt; longer.status, Status::TooLong);
     assert_eq!(rt; longer.sink.taken(), b"".as_slice());
