@@ -183,7 +183,7 @@ next_event side limits past =
     else if is_opening side past then due.Emit (opening_frame side limits)
     else if is_agreed side limits past
     && sends (credits_held side past) (receives_outstanding side past) (receives_grantable side past)
-      (not (length (pieces_waiting limits past) == 0)) (is_response_owed past)
+    (not (length (pieces_waiting limits past) == 0)) (is_response_owed past)
     then due.Emit (data_frame_due limits (credits_held side past) (receives_grantable side past) (pieces_waiting limits past))
     else due.Idle
 

@@ -8,3 +8,4 @@ pub mod Counts
 pub mod History
 pub mod Delivery
 pub mod Joint
+pub mod Tokens

@@ -14,6 +14,9 @@ mod limits;
 mod message;
 mod next;
 mod no_memory;
+mod page_event;
+mod right;
+mod token;
 
 pub use agreed::Agreed;
 pub use bytes::{u16_at, u32_at};
@@ -25,3 +28,6 @@ pub use limits::{EndLimits, LimitFault};
 pub use message::Message;
 pub use next::Next;
 pub use no_memory::NoMemory;
+pub use page_event::PageEvent;
+pub use right::Right;
+pub use token::Token;
