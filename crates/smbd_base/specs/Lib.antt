@@ -9,3 +9,5 @@ pub mod History
 pub mod Delivery
 pub mod Joint
 pub mod Tokens
+pub mod Pages
+pub mod PagesFit
