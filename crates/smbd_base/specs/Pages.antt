@@ -1,6 +1,6 @@
 -- The life of a page of a pool (this project's own; MS-SMBD 3.1.4 has a registered buffer only). A page is loaded under
 -- a token, fetched from or placed into by the peer, and unloaded again. A past is a list, the newest event first.
-use Rattle.std.specs.Prelude.{◌≡◌, ℕ, ◌+◌, ◌-◌, ◌==◌, ◌≤◌, if◌then◌else◌, Option, Some, None, List, [], ◌∷◌, ◌++◌, length, take, drop, replicate}
+use Rattle.std.specs.Prelude.{◌≡◌, ℕ, ◌+◌, ◌-◌, ◌==◌, ◌<◌, ◌≤◌, if◌then◌else◌, Option, Some, None, List, [], ◌∷◌, ◌++◌, length, take, drop, replicate, slice_index_or, slice_set}
 use Rattle.smbd_base.specs.declared.right.Right.{Right}
 use Rattle.smbd_base.specs.declared.right.Right.TheVariants as right
 use Rattle.smbd_base.specs.declared.page_event.PageEvent.{PageEvent}
@@ -128,3 +128,19 @@ abbrev pub IsPoolLife : ℕ → List Entry → Type 0
 IsPoolLife first [] = Unit {0}
 IsPoolLife first (e ∷ past) =
     IsPageStep e.event (page_state first (entries_on (page_in e.event) past)) × IsPoolLife first past
+
+-- the state of a page of a pool; a page that the pool does not have is one that was never loaded
+abbrev pub page_at : ℕ → List PageState → PageState
+page_at page pages = slice_index_or pages page (opened_page 1)
+
+-- the event is a step of its page, and the other pages stay as they are
+pub record IsPoolStep (event : PageEvent) (old new : List PageState) : Type 0 where
+  pub among : page_in event < length old
+  pub step : IsPageStep event (page_at (page_in event) old)
+  pub after : new ≡ slice_set old (page_in event) (page_after event (page_at (page_in event) old))
+
+-- the pages of a pool of so many after these entries, each of them a step
+abbrev pub IsPoolRun : ℕ → ℕ → List Entry → List PageState → Type 0
+IsPoolRun first count [] pages = pages ≡ replicate count (opened_page first)
+IsPoolRun first count (e ∷ past) pages =
+    (before : List PageState) × IsPoolRun first count past before × IsPoolStep e.event before pages
