@@ -1,4 +1,4 @@
-ghost use Rattle.std.specs.Prelude.{◌≡◌, ◌++◌};
+ghost use Rattle.std.specs.Prelude.{◌≡◌, ◌↔◌, ◌++◌, [], IsNone};
 ghost use Rattle.std.specs.Option.{option_to_list};
 
 use std::marker::Model;
@@ -60,7 +60,8 @@ impl Passes {
 
     /// The first pass that is left, and `None` where none is.
     pub fn take(&mut self) -> Option<PagePass>
-        ensures { self.old ≡ option_to_list result ++ self.new }
+        ensures taken { self.old ≡ option_to_list result ++ self.new }
+        ensures none { IsNone result ↔ (self.old ≡ []) }
     {
         if self.left == 0 {
             return None;

@@ -1,5 +1,5 @@
 -- What the test of a limit says.
-use Rattle.std.proofs.Common.{◌≡◌, ℕ, ◌≤◌, ◌<◌, Bool, true, false, ◌||◌, ltb, refl, sym, arith}
+use Rattle.std.proofs.Common.{◌≡◌, ℕ, Bool, true, false, ◌||◌, ltb, refl}
 use Rattle.std.proofs.lemmas.Bool.{ltb-false}
 use Rattle.smbd_base.specs.Limits.{is_outside, IsWithin}
 

@@ -1,7 +1,7 @@
 -- Lives of pages, by computation.
-use Rattle.std.proofs.Common.{◌≡◌, ℕ, ◌+◌, ◌-◌, List, [], ◌∷◌, ◌++◌, refl, length, replicate, lit≤, arith, Some, None}
+use Rattle.std.proofs.Common.{◌≡◌, ℕ, ◌+◌, List, [], ◌∷◌, refl, replicate, lit≤, arith, None}
 use Rattle.smbd_base.specs.declared.right.Right.TheVariants as right
-use Rattle.smbd_base.specs.declared.page_event.PageEvent.TheVariants.{Load, Fetch, Place, Unload}
+use Rattle.smbd_base.specs.declared.page_event.PageEvent.TheVariants.{Load, Place, Unload}
 use Rattle.smbd_base.specs.Tokens.{PageToken, IsToken, number_of}
 use Rattle.smbd_base.specs.Pages.{Entry, IsPageStep, IsPageLife, page_state, whole_page}
 

@@ -1,6 +1,6 @@
 -- The data transfer message (MS-SMBD 2.2.3). The layout is MS-SMBD's; which bytes are read leniently, and the one
 -- written form, are this project's own.
-use Rattle.std.specs.Prelude.{◌≡◌, ℕ, ◌+◌, ◌%◌, ◌==◌, nat_lt, not, ◌||◌, Bool, true, false, List, [], ◌∷◌, ◌++◌, length, take, drop, if◌then◌else◌, Result, Ok, Err}
+use Rattle.std.specs.Prelude.{ℕ, ◌+◌, ◌%◌, ◌==◌, nat_lt, not, ◌||◌, Bool, true, false, List, [], ◌∷◌, ◌++◌, length, take, drop, if◌then◌else◌, Result, Ok, Err}
 use Rattle.std.specs.Int.{w16, w32, to_le_bytes}
 use Rattle.smbd_base.specs.declared.faults.FrameFault.{FrameFault}
 use Rattle.smbd_base.specs.declared.faults.FrameFault.TheVariants.{Short, Offset, Length}

@@ -1,5 +1,5 @@
 -- The messages that an end delivers (MS-SMBD 3.1.5.8). A past is a list of events, the newest one first.
-use Rattle.std.specs.Prelude.{ℕ, ◌==◌, not, ◌&&◌, is_none, Bool, Option, Some, None, Result, Ok, Err, List, [], ◌∷◌, ◌++◌, length, if◌then◌else◌}
+use Rattle.std.specs.Prelude.{ℕ, ◌==◌, not, ◌&&◌, is_none, Option, Some, None, Result, Ok, Err, List, [], ◌∷◌, ◌++◌, length, if◌then◌else◌}
 use Rattle.smbd_base.specs.declared.end_id.EndId.{EndId}
 use Rattle.smbd_base.specs.declared.event.Event.{Event}
 use Rattle.smbd_base.specs.declared.event.Event.TheVariants.{Post, Submit, Emit, Take, Cut}

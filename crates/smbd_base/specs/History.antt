@@ -1,6 +1,6 @@
 -- What comes next at an end, and which events may follow (MS-SMBD 3.1.5; when a frame goes out, what it grants and
 -- when it asks for a response are this project's own). A past is a list of events, the newest one first.
-use Rattle.std.specs.Prelude.{◌≡◌, ℕ, ◌-◌, ◌%◌, ◌==◌, ◌<◌, ◌≤◌, ◌+◌, nat_lt, nat_le, nat_eq, min, Bool, true, false, not, ◌||◌, ◌&&◌, is_some, is_none, Option, Some, None, Result, Ok, Err, List, [], ◌∷◌, ◌++◌, length, drop, if◌then◌else◌}
+use Rattle.std.specs.Prelude.{◌≡◌, ℕ, ◌-◌, ◌%◌, ◌==◌, ◌+◌, nat_lt, nat_le, nat_eq, min, Bool, true, false, not, ◌||◌, ◌&&◌, is_some, is_none, Option, Some, None, Result, Ok, Err, List, [], ◌∷◌, ◌++◌, length, drop, if◌then◌else◌}
 use Rattle.std.specs.List.{flat_map}
 use lib.Pointwise.{pointwise}
 use Rattle.smbd_base.specs.declared.agreed.Agreed.{Agreed}

@@ -11,3 +11,4 @@ pub mod Joint
 pub mod Tokens
 pub mod Pages
 pub mod PagesFit
+pub mod PageLaws

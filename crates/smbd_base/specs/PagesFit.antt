@@ -1,6 +1,6 @@
 -- When the lists of page events that the passes of one pool made fit together (this project's own). Each pass has its
 -- own list, the newest event first; nothing here asks in which order events of two passes came.
-use Rattle.std.specs.Prelude.{◌≡◌, ℕ, zero, suc, ◌+◌, ◌-◌, ◌==◌, ◌<◌, ◌≤◌, nat_lt, nat_le, Bool, true, false, ◌&&◌, if◌then◌else◌, Contains, count_by, List, [], ◌∷◌, ◌++◌, length}
+use Rattle.std.specs.Prelude.{◌≡◌, ℕ, zero, suc, ◌-◌, ◌==◌, ◌<◌, ◌≤◌, nat_lt, Bool, false, ◌&&◌, if◌then◌else◌, Contains, count_by, List, [], ◌∷◌, ◌++◌, length}
 use Rattle.std.specs.List.{flat_map}
 use Rattle.smbd_base.specs.declared.right.Right.{Right}
 use Rattle.smbd_base.specs.declared.right.Right.TheVariants as right
@@ -120,3 +120,8 @@ events_by pass (e ∷ past) = if e.pass == pass then e.event ∷ events_by pass 
 abbrev pub lists_of : ℕ → List Entry → List (List PageEvent)
 lists_of zero past = []
 lists_of (suc n) past = lists_of n past ++ events_by n past ∷ []
+
+-- each entry was made by one of so many passes
+abbrev pub AreMadeBy : ℕ → List Entry → Type 0
+AreMadeBy seats [] = Unit {0}
+AreMadeBy seats (e ∷ past) = (e.pass < seats) × AreMadeBy seats past

@@ -15,6 +15,7 @@ mod message;
 mod next;
 mod no_memory;
 mod page_event;
+mod page_laws;
 mod right;
 mod token;
 
@@ -29,5 +30,6 @@ pub use message::Message;
 pub use next::Next;
 pub use no_memory::NoMemory;
 pub use page_event::PageEvent;
+pub use page_laws::{lists_of_passes_fit, steps_make_page_lives};
 pub use right::Right;
 pub use token::Token;
