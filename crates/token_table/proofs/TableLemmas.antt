@@ -7,7 +7,7 @@ use Rattle.smbd_base.specs.PagesFit.{is_token}
 use Rattle.smbd_base.proofs.EventLists.{is_token-true, token-is}
 use Rattle.token_table.specs.declared.record.Record.{Record}
 use Rattle.token_table.specs.declared.record.Listed.{Listed}
-use Rattle.token_table.specs.Tables.{listed_at, of_token, listed_under, with_record, holds_on, TakesHold}
+use Rattle.token_table.specs.Tables.{listed_at, of_token, listed_under, with_record, holds_on, TakesHold, TakesOut}
 
 -- what is listed under a token is listed at its page, and is the token's
 of_token-Some : (token : PageToken) (place : Option Listed) (listed : Listed) → of_token token place ≡ Some listed
@@ -70,3 +70,11 @@ TakesHold-set token table places page listed more hold same at among under held 
     ∙ ap (λ (l : Listed). slice_set places page (Some l)) (sym once) in
     subst (λ (e : Record). TakesHold token e table (slice_set places page (Some more))) (sym held)
     (subst (λ (xs : List (Option Listed)). TakesHold token listed.entry table xs) new (TakesHold-from token table listed among under))
+
+pub TakesOut-set : (token : PageToken) (table places : List (Option Listed)) (page : ℕ) (listed : Listed) → places ≡ table → page ≡ token.page
+    → token.page < length table → listed_under token table ≡ Some listed → TakesOut token listed.entry table (slice_set places page None)
+TakesOut-set token table places page listed same at among under = record {
+  asked = (of_token-Some token (listed_at token.page table) listed under).1;
+  among = among;
+  gone = ap (λ (xs : List (Option Listed)). slice_set xs page None) same ∙ ap (λ (p : ℕ). slice_set table p None) at;
+}

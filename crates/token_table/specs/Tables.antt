@@ -101,3 +101,9 @@ pub record TakesHold (token : PageToken) (entry : Record) (old new : List (Optio
   pub held : IsHeld entry new
   pub more : new ≡ with_record old entry (holds_on (listed_at entry.token.page old) + 1)
   pub back : with_record new entry (holds_on (listed_at entry.token.page new) - 1) ≡ old
+
+-- a record that is taken out of the table
+pub record TakesOut (token : PageToken) (entry : Record) (old new : List (Option Listed)) : Type 0 where
+  pub asked : entry.token ≡ token
+  pub among : token.page < length old
+  pub gone : new ≡ slice_set old token.page None

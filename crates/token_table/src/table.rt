@@ -1,6 +1,6 @@
-ghost use Rattle.std.specs.Prelude.{◌≡◌, ◌≢◌, ◌+◌, ◌-◌, ◌<◌, ◌≤◌, length, replicate, slice_set, IfOk, None};
+ghost use Rattle.std.specs.Prelude.{◌≡◌, ◌≢◌, ◌+◌, ◌-◌, ◌<◌, ◌≤◌, length, replicate, IfOk, None};
 ghost use Rattle.token_table.specs.Records.{IsInPage};
-ghost use Rattle.token_table.specs.Tables.{listed_at, listed_under, issue_answer, claim_answer, withdraw_answer, IfHeld, OnUnheld, IfWithdrawn, OnKept, with_record, holds_on, IsHeld, TakesHold};
+ghost use Rattle.token_table.specs.Tables.{listed_at, listed_under, issue_answer, claim_answer, withdraw_answer, IfHeld, OnUnheld, IfWithdrawn, OnKept, with_record, holds_on, IsHeld, TakesHold, TakesOut};
 
 use crate::answers::{Claimed, Issue, Withdraw};
 use crate::hold::Hold;
@@ -108,7 +108,7 @@ impl TokenTable {
     /// Takes the token's record out of the table, where nobody holds it.
     pub fn withdraw(&mut self, token: Token) -> Withdraw
         ensures answer { result ≡ withdraw_answer token self.old }
-        ensures done { IfWithdrawn result (λ entry. self.new ≡ slice_set self.old token.page None) }
+        ensures done { IfWithdrawn result (λ entry. TakesOut token entry self.old self.new) }
         ensures kept { OnKept result (self.new ≡ self.old) }
         ensures count { length self.new ≡ length self.old }
     {
