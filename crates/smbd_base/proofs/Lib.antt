@@ -1,7 +1,14 @@
 pub mod BalanceLemmas
 pub mod DeliveryLemmas
+pub mod EventLists
 pub mod FrameLaws
 pub mod Inversion
 pub mod LimitLemmas
 pub mod NextLemmas
+pub mod PageContents
+pub mod PageExamples
+pub mod PageGenerations
+pub mod PagesFitLaws
+pub mod PassLists
 pub mod PieceLemmas
+pub mod PoolLives

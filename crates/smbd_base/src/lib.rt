@@ -16,8 +16,12 @@ mod limits;
 mod message;
 mod next;
 mod no_memory;
+mod page_event;
+mod page_laws;
+mod right;
 #[cfg(test)]
 mod tests;
+mod token;
 mod worked;
 
 pub use agreed::Agreed;
@@ -34,4 +38,8 @@ pub use limits::{EndLimits, LimitFault};
 pub use message::Message;
 pub use next::Next;
 pub use no_memory::NoMemory;
+pub use page_event::PageEvent;
+pub use page_laws::{lists_of_passes_fit, steps_make_page_lives};
+pub use right::Right;
+pub use token::Token;
 pub use worked::worked_histories;

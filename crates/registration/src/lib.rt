@@ -1,0 +1,11 @@
+//! Pages together with their records: a page is loaded and its record issued, and the record is withdrawn before the
+//! page is unloaded.
+#![tactic(auto)]
+
+mod answers;
+mod region;
+#[cfg(test)]
+mod tests;
+
+pub use answers::{Register, Release};
+pub use region::Region;
