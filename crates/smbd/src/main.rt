@@ -4,6 +4,7 @@
 use smbd_cli::{Word, run};
 use smbd_outside::{ReadSource, Status, WriteSink};
 use std::env;
+use std::io::ErrorKind;
 use std::process::ExitCode;
 use std::rt::Env;
 
@@ -23,10 +24,12 @@ fn main(rt: HostRuntime) -> ExitCode {
     ExitCode::from(status.code())
 }
 
-/// The words after the program's name.
+/// The words after the program's name. One that isn't UTF-8 is a usage fault.
 fn words(rt: &(impl Env + AllocGlobal)) -> Result<Vec<Word>, Status> {
-    let Ok(texts) = env::args(rt) else {
-        return Err(Status::Usage);
+    let texts = match env::args(rt) {
+        Ok(texts) => texts,
+        Err(error) if error.kind() == ErrorKind::OutOfMemory => return Err(Status::NoMemory),
+        Err(_) => return Err(Status::Usage),
     };
     let mut words = Vec::new(rt.alloc());
     for text in texts.skip(1) {
