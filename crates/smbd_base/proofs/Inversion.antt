@@ -7,7 +7,7 @@ use Rattle.smbd_base.specs.declared.next.Next.TheVariants as due
 use Rattle.smbd_base.specs.Limits.{Limits}
 use Rattle.smbd_base.specs.declared.faults.TakeFault.{TakeFault}
 use Rattle.smbd_base.specs.Counts.{is_out_of_turn}
-use Rattle.smbd_base.specs.History.{next_event, take_fault, opening_frame, frame_due, is_cut, is_new, is_refused, is_post_due, is_opening, is_sending, is_ready}
+use Rattle.smbd_base.specs.History.{next_event, take_fault, fault_expecting, opening_frame, frame_due, is_cut, is_new, is_refused, is_post_due, is_opening, is_sending, is_ready}
 
 -- the past of an end that goes on: opened, neither cut nor closed
 pub record IsGoing (side : EndId) (limits : Limits) (past : List Event) : Type 0 where
@@ -95,7 +95,7 @@ turn_by false fault later e = refl
 
 -- a frame that is not refused came in turn
 pub in_turn : (side : EndId) (limits : Limits) (past : List Event) (frame : List ℕ) → is_some (take_fault side limits past frame) ≡ false → is_out_of_turn side past ≡ false
-unfolding take_fault
+unfolding take_fault fault_expecting
 in_turn side limits past frame e = turn_by (is_out_of_turn side past) _ _ e
 
 -- no second Post comes right after one

@@ -4,6 +4,7 @@ pub mod EventLists
 pub mod FrameLaws
 pub mod Inversion
 pub mod LimitLemmas
+pub mod NegotiationLaws
 pub mod NextLemmas
 pub mod PageContents
 pub mod PageExamples
@@ -12,3 +13,4 @@ pub mod PagesFitLaws
 pub mod PassLists
 pub mod PieceLemmas
 pub mod PoolLives
+pub mod WorkedRuns

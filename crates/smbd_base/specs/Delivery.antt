@@ -6,7 +6,7 @@ use Rattle.smbd_base.specs.declared.event.Event.TheVariants.{Post, Submit, Emit,
 use Rattle.smbd_base.specs.declared.faults.FrameFault.{FrameFault}
 use Rattle.smbd_base.specs.Counts.{is_unheard}
 use Rattle.smbd_base.specs.DataFrame.{DataFrame, data_frame_of}
-use Rattle.smbd_base.specs.History.{take_fault}
+use Rattle.smbd_base.specs.History.{take_fault, bytes_expected}
 use Rattle.smbd_base.specs.Limits.{Limits}
 use Rattle.smbd_base.specs.Pieces.{Piece, SplitsInto, Gathered, with_piece}
 
@@ -61,6 +61,6 @@ message_ended g (Some p) = if p.remaining == 0 then Some (g.begun ++ p.payload) 
 abbrev pub message_brought : EndId → Limits → List Event → List ℕ → Option (List ℕ)
 message_brought side limits past frame = message_ended (gathered side limits past) (piece_brought side limits past frame)
 
--- the pieces that were taken split into these messages, and a rest
+-- the pieces that were taken split into these messages, and a rest which expects the bytes that are still to come
 abbrev pub Delivers : EndId → Limits → List Event → List (List ℕ) → Type 0
-Delivers side limits past messages = (rest : List Piece) × (expected : ℕ) × SplitsInto (pieces_taken side limits past) messages rest expected
+Delivers side limits past messages = (rest : List Piece) × SplitsInto (pieces_taken side limits past) messages rest (bytes_expected side limits past)

@@ -11,6 +11,7 @@ use Rattle.smbd_base.specs.declared.event.Event.TheVariants.{Post, Submit, Emit,
 use Rattle.smbd_base.specs.declared.next.Next.{Next}
 use Rattle.smbd_base.specs.declared.next.Next.TheVariants as due
 use Rattle.smbd_base.specs.declared.faults.FrameFault.{FrameFault}
+use Rattle.smbd_base.specs.declared.faults.Broken.{Broken}
 use Rattle.smbd_base.specs.declared.faults.TakeFault.{TakeFault}
 use Rattle.smbd_base.specs.declared.faults.TakeFault.TheVariants as faults
 use Rattle.smbd_base.specs.declared.faults.SubmitFault.{SubmitFault}
@@ -18,7 +19,7 @@ use Rattle.smbd_base.specs.declared.faults.SubmitFault.TheVariants as refusals
 use Rattle.smbd_base.specs.Limits.{Limits}
 use Rattle.smbd_base.specs.Negotiation.{request_text, response_text}
 use Rattle.smbd_base.specs.DataFrame.{DataFrame, data_frame_of, frame_bytes}
-use Rattle.smbd_base.specs.Pieces.{Piece, pieces_of}
+use Rattle.smbd_base.specs.Pieces.{Piece, pieces_of, gather_fault}
 use Rattle.smbd_base.specs.Counts.{receives_outstanding, receives_grantable, credits_held, is_silent, is_unheard, is_out_of_turn}
 
 -- ---- the frames of the negotiation
@@ -35,18 +36,48 @@ awaited_frame Server limits = request_text limits
 
 -- ---- when a frame is refused
 
--- why a data transfer message is refused: until messages are gathered, a piece that is not a whole message is
-abbrev pub data_fault : Result DataFrame FrameFault → Option TakeFault
-data_fault (Err fault) = Some (faults.Frame fault)
-data_fault (Ok d) = if length d.payload == 0 || d.remaining == 0 then None else Some (faults.Fragmented d.remaining)
+-- why a piece that does not fit is refused
+abbrev pub broken_fault : Option Broken → Option TakeFault
+broken_fault None = None
+broken_fault (Some broken) = Some (faults.Gather broken)
 
--- why an end refuses this frame after this past, if it does
-unfoldable pub take_fault : EndId → Limits → List Event → List ℕ → Option TakeFault
-take_fault side limits past frame =
+-- why a data transfer message is refused by an end that gathers messages of at most so many bytes, while so many are expected
+abbrev pub data_fault : ℕ → ℕ → Result DataFrame FrameFault → Option TakeFault
+data_fault max expected (Err fault) = Some (faults.Frame fault)
+data_fault max expected (Ok d) =
+    if length d.payload == 0 then None else broken_fault (gather_fault max expected (length d.payload) d.remaining)
+
+-- why an end refuses this frame after this past, while so many bytes of a message are expected
+unfoldable pub fault_expecting : ℕ → EndId → Limits → List Event → List ℕ → Option TakeFault
+fault_expecting expected side limits past frame =
     if is_out_of_turn side past then Some faults.OutOfTurn
     else if nat_lt limits.receive_size (length frame) then Some (faults.Oversize (length frame) limits.receive_size)
     else if is_unheard past then (if pointwise nat_eq frame (awaited_frame side limits) then None else Some faults.NotFixed)
-    else data_fault (data_frame_of frame)
+    else data_fault limits.fragmented_size expected (data_frame_of frame)
+
+-- the bytes that are expected after a data transfer message: what remains after its piece, where it has one
+abbrev pub expected_after : ℕ → Result DataFrame FrameFault → ℕ
+expected_after expected (Err fault) = expected
+expected_after expected (Ok d) = if length d.payload == 0 then expected else d.remaining
+
+-- the bytes that are expected once this frame was taken; one that is refused, and the negotiation message, change nothing
+abbrev pub expected_with : ℕ → EndId → Limits → List Event → List ℕ → ℕ
+expected_with expected side limits past frame =
+    if not (is_unheard past) && is_none (fault_expecting expected side limits past frame) then expected_after expected (data_frame_of frame)
+    else expected
+
+-- the bytes that are still to come of the message that is begun; 0 where none is
+abbrev pub bytes_expected : EndId → Limits → List Event → ℕ
+bytes_expected side limits [] = 0
+bytes_expected side limits (Post n ∷ past) = bytes_expected side limits past
+bytes_expected side limits (Submit m ∷ past) = bytes_expected side limits past
+bytes_expected side limits (Emit f ∷ past) = bytes_expected side limits past
+bytes_expected side limits (Take f ∷ past) = expected_with (bytes_expected side limits past) side limits past f
+bytes_expected side limits (Cut ∷ past) = bytes_expected side limits past
+
+-- why an end refuses this frame after this past, if it does
+unfoldable pub take_fault : EndId → Limits → List Event → List ℕ → Option TakeFault
+take_fault side limits past frame = fault_expecting (bytes_expected side limits past) side limits past frame
 
 -- ---- what the past says
 
@@ -143,9 +174,9 @@ send_size limits = min limits.send_size limits.receive_size
 abbrev pub payload_size : Limits → ℕ
 payload_size limits = send_size limits - 24
 
--- the longest message that may be submitted: until messages are cut, one that fits one frame
-abbrev pub message_limit : Limits → ℕ
-message_limit limits = payload_size limits
+-- the longest message that may be submitted: what every end gathers at least, and, once the end is agreed, what its peer gathers
+abbrev pub message_limit : EndId → Limits → List Event → ℕ
+message_limit side limits past = if is_agreed side limits past then limits.fragmented_size else 131072
 
 -- the pieces of the submitted messages that are still to be sent, the next one first
 abbrev pub pieces_waiting : Limits → List Event → List Piece
@@ -210,7 +241,7 @@ abbrev pub submit_fault : EndId → Limits → List Event → List ℕ → Optio
 submit_fault side limits past message =
     if not (is_open side limits past) then Some refusals.Closed
     else if length message == 0 then Some refusals.Empty
-    else if nat_lt (message_limit limits) (length message) then Some refusals.TooLong
+    else if nat_lt (message_limit side limits past) (length message) then Some refusals.TooLong
     else None
 
 -- the event may follow this past

@@ -3,6 +3,7 @@ pub mod Grant
 pub mod Limits
 pub mod DataFrame
 pub mod Negotiation
+pub mod NegotiateMessages
 pub mod Pieces
 pub mod Counts
 pub mod History
@@ -14,3 +15,4 @@ pub mod Tokens
 pub mod Pages
 pub mod PagesFit
 pub mod PageLaws
+pub mod WorkedPages

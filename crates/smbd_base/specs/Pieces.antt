@@ -1,6 +1,8 @@
 -- How a message is cut into pieces, and how pieces make messages (MS-SMBD 3.1.5.1 and 3.1.5.8).
-use Rattle.std.specs.Prelude.{◌≡◌, ℕ, zero, suc, ◌+◌, ◌-◌, ◌/◌, ◌<◌, ◌==◌, List, [], ◌∷◌, ◌++◌, length, take, drop, map, if◌then◌else◌}
+use Rattle.std.specs.Prelude.{◌≡◌, ℕ, zero, suc, ◌+◌, ◌-◌, ◌/◌, ◌<◌, ◌==◌, nat_lt, Option, Some, None, List, [], ◌∷◌, ◌++◌, length, take, drop, map, if◌then◌else◌}
 use Rattle.std.specs.List.{flat_map}
+use Rattle.smbd_base.specs.declared.faults.Broken.{Broken}
+use Rattle.smbd_base.specs.declared.faults.Broken.TheVariants.{Total, TooLong}
 
 -- a part of a message, and how many bytes of the message come after it (RemainingDataLength)
 pub record Piece : Type 0 where
@@ -68,3 +70,11 @@ abbrev pub with_piece : Gathered → Piece → Gathered
 with_piece g p =
     if p.remaining == 0 then record { messages = g.messages ++ (g.begun ++ p.payload) ∷ []; begun = [] }
     else record { messages = g.messages; begun = g.begun ++ p.payload }
+
+-- Why a piece of so many bytes, with so many after it, is refused while so many bytes are expected. Where a message is
+-- begun, both together are just the bytes that are expected; where none is, they are at most so many.
+abbrev pub gather_fault : ℕ → ℕ → ℕ → ℕ → Option Broken
+gather_fault max expected len remaining =
+    if expected == 0 then (if nat_lt max (len + remaining) then Some (TooLong (len + remaining) max) else None)
+    else if len + remaining == expected then None
+    else Some (Total expected (len + remaining))

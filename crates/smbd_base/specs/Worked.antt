@@ -1,5 +1,6 @@
 -- Worked histories: what the definitions say of small examples, found by computation.
-use Rattle.std.specs.Prelude.{◌≡◌, ℕ, true, false, Some, None, List, [], ◌∷◌, replicate, take}
+use Rattle.std.specs.Prelude.{◌≡◌, ℕ, ◌+◌, true, false, Some, None, Ok, List, [], ◌∷◌, ◌++◌, replicate, take, drop}
+use Rattle.std.specs.Int.{w16, w32, to_le_bytes}
 use Rattle.smbd_base.specs.declared.end_id.EndId.TheVariants.{Client, Server}
 use Rattle.smbd_base.specs.declared.event.Event.{Event}
 use Rattle.smbd_base.specs.declared.event.Event.TheVariants.{Post, Submit, Emit, Take, Cut}
@@ -10,9 +11,12 @@ use Rattle.smbd_base.specs.declared.faults.FrameFault.TheVariants.{Short}
 use Rattle.smbd_base.specs.Limits.{Limits, usual_limits}
 use Rattle.smbd_base.specs.Negotiation.{request_text, response_text}
 use Rattle.smbd_base.specs.DataFrame.{frame_bytes}
-use Rattle.smbd_base.specs.Pieces.{pieces_of}
+use Rattle.smbd_base.specs.declared.faults.NegotiateFault.TheVariants as negotiate_faults
+use Rattle.smbd_base.specs.NegotiateMessages.{request_of_limits, request_fault, read_request_of, request_bytes, answer_to, response_fault, read_response_of, response_bytes, refusing_response, agreed_with_client, agreed_with_server}
+use Rattle.smbd_base.specs.declared.faults.Broken.TheVariants as broken
+use Rattle.smbd_base.specs.Pieces.{pieces_of, gather_fault}
 use Rattle.smbd_base.specs.Counts.{receives_outstanding, receives_grantable, credits_held, frames_taken}
-use Rattle.smbd_base.specs.History.{next_event, take_fault, submit_fault}
+use Rattle.smbd_base.specs.History.{next_event, take_fault, submit_fault, bytes_expected, message_limit}
 use Rattle.smbd_base.specs.Delivery.{messages_delivered}
 
 -- the negotiate request of the usual limits
@@ -138,3 +142,82 @@ pub record CutsSo : Type 0 where
       ≡ (record { payload = replicate 1340 7; remaining = 1660 }) ∷ (record { payload = replicate 1340 7; remaining = 320 })
       ∷ (record { payload = replicate 320 7; remaining = 0 }) ∷ []
   pub one : pieces_of 1340 (take 1340 long) ≡ (record { payload = replicate 1340 7; remaining = 0 }) ∷ []
+
+-- the server once it has taken this frame and posted the receive anew
+abbrev then_taken : List ℕ → List Event → List Event
+then_taken frame past = Post 1 ∷ Take frame ∷ past
+
+-- the second piece of the message, but for its last remaining byte
+abbrev short_frame : List ℕ
+short_frame = frame_bytes 3 0 true 319 (replicate 1340 7)
+
+-- the three pieces are gathered
+pub record GathersSo : Type 0 where
+  pub taken : take_fault Server three three_server first_frame ≡ None
+  pub expected : bytes_expected Server three (then_taken first_frame three_server) ≡ 1660
+  pub nothing_yet : messages_delivered Server three (then_taken first_frame three_server) ≡ []
+  pub goes_on : take_fault Server three (then_taken first_frame three_server) second_frame ≡ None
+  pub delivered : messages_delivered Server three (Take third_frame ∷ then_taken second_frame (then_taken first_frame three_server)) ≡ long ∷ []
+  pub complete : bytes_expected Server three (Take third_frame ∷ then_taken second_frame (then_taken first_frame three_server)) ≡ 0
+  -- an empty message between leaves it as it is
+  pub between : bytes_expected Server three (then_taken (empty_frame 0) (then_taken first_frame three_server)) ≡ 1660
+  -- a piece with one byte too few, and a message that is one byte too long
+  pub total : take_fault Server three (then_taken first_frame three_server) short_frame ≡ Some (faults.Gather (broken.Total 1660 1659))
+  pub too_long : gather_fault 1048576 0 1 1048576 ≡ Some (broken.TooLong 1048577 1048576)
+  pub longest : gather_fault 1048576 0 1 1048575 ≡ None
+  -- how long a message may be, before the negotiation and after it
+  pub before : message_limit Client usual_limits (Post 255 ∷ []) ≡ 131072
+  pub after : message_limit Client usual_limits agreed_client ≡ 1048576
+
+-- bytes with another number at this place
+abbrev with_u16 : ℕ → ℕ → List ℕ → List ℕ
+with_u16 place n bytes = take place bytes ++ to_le_bytes w16 n ++ drop (place + 2) bytes
+
+abbrev with_u32 : ℕ → ℕ → List ℕ → List ℕ
+with_u32 place n bytes = take place bytes ++ to_le_bytes w32 n ++ drop (place + 4) bytes
+
+-- the refusing response
+abbrev refusal : List ℕ
+refusal =
+    0 ∷ 1 ∷ 0 ∷ 1 ∷ 0 ∷ 0 ∷ 0 ∷ 0 ∷ 0 ∷ 0 ∷ 0 ∷ 0 ∷ 187 ∷ 0 ∷ 0 ∷ 192
+    ∷ 0 ∷ 0 ∷ 0 ∷ 0 ∷ 0 ∷ 0 ∷ 0 ∷ 0 ∷ 0 ∷ 0 ∷ 0 ∷ 0 ∷ 0 ∷ 0 ∷ 0 ∷ 0 ∷ []
+
+-- what the negotiation messages say
+pub record NegotiatesSo : Type 0 where
+  -- the request of the usual limits
+  pub requested : request_bytes (request_of_limits usual_limits) ≡ request
+  pub read : read_request_of request ≡ Ok (request_of_limits usual_limits)
+  pub longer : read_request_of (request ++ 7 ∷ []) ≡ Ok (request_of_limits usual_limits)
+  pub reserved : read_request_of (with_u16 4 65535 request) ≡ Ok (request_of_limits usual_limits)
+  pub short : request_fault (take 19 request) ≡ Some negotiate_faults.Short
+  pub newer : request_fault (with_u16 0 512 (with_u16 2 512 request)) ≡ Some negotiate_faults.Version
+  pub older : request_fault (with_u16 2 255 request) ≡ Some negotiate_faults.Version
+  pub no_credits : request_fault (with_u16 6 0 request) ≡ Some negotiate_faults.Credits
+  pub small_frames : request_fault (with_u32 12 127 request) ≡ Some negotiate_faults.ReceiveSize
+  pub small_messages : request_fault (with_u32 16 131071 request) ≡ Some negotiate_faults.FragmentedSize
+  -- two that break several bounds
+  pub version_first : request_fault (with_u16 2 255 (with_u16 6 0 request)) ≡ Some negotiate_faults.Version
+  pub zeros : request_fault (replicate 20 0) ≡ Some negotiate_faults.Version
+  -- the answer to it, where 255 credits may be granted, and where 300 or 7 may be
+  pub answered : response_bytes (answer_to (request_of_limits usual_limits) usual_limits 255) ≡ response
+  pub asked_alone : response_bytes (answer_to (request_of_limits usual_limits) usual_limits 300) ≡ response
+  pub grantable_alone : response_bytes (answer_to (request_of_limits usual_limits) usual_limits 7) ≡ with_u16 10 7 response
+  pub answer_read : read_response_of usual_limits response ≡ Ok (answer_to (request_of_limits usual_limits) usual_limits 255)
+  pub longer_answer : read_response_of usual_limits (response ++ 7 ∷ []) ≡ Ok (answer_to (request_of_limits usual_limits) usual_limits 255)
+  pub short_answer : response_fault usual_limits (take 31 response) ≡ Some negotiate_faults.Short
+  pub other_version : response_fault usual_limits (with_u16 4 257 response) ≡ Some negotiate_faults.Version
+  pub none_asked : response_fault usual_limits (with_u16 8 0 response) ≡ Some negotiate_faults.Credits
+  pub none_granted : response_fault usual_limits (with_u16 10 0 response) ≡ Some negotiate_faults.Granted
+  pub one_too_many : response_fault usual_limits (with_u16 10 256 response) ≡ Some negotiate_faults.Granted
+  pub long_frames : response_fault usual_limits (with_u32 20 8193 response) ≡ Some negotiate_faults.SendSize
+  pub small_frames_back : response_fault usual_limits (with_u32 24 127 response) ≡ Some negotiate_faults.ReceiveSize
+  pub small_messages_back : response_fault usual_limits (with_u32 28 131071 response) ≡ Some negotiate_faults.FragmentedSize
+  -- the refusing response, whose Status comes before its version
+  pub refused : response_bytes refusing_response ≡ refusal
+  pub refusal_read : response_fault usual_limits refusal ≡ Some negotiate_faults.Status
+  pub short_refusal : response_fault usual_limits (take 31 refusal) ≡ Some negotiate_faults.Short
+  -- what both have agreed
+  pub server_agreed : agreed_with_client usual_limits (request_of_limits usual_limits)
+      ≡ record { send_size = 1364; message_max = 1048576; read_write_max = None; credits_requested = 255 }
+  pub client_agreed : agreed_with_server usual_limits (answer_to (request_of_limits usual_limits) usual_limits 255)
+      ≡ record { send_size = 1364; message_max = 1048576; read_write_max = Some 1048576; credits_requested = 255 }

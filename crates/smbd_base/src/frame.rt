@@ -6,20 +6,22 @@ use crate::end_id::EndId;
 use crate::no_memory::NoMemory;
 use std::alloc::Global;
 use std::marker::Model;
+use std::sync::ArcSlice;
 
 /// The bytes of one RDMA send: a negotiation message or a data transfer message (MS-SMBD 2.2).
 /// Contracts see the list of the bytes.
 #[derive(Clone, Debug, Drop)]
 pub struct Frame {
-    bytes: Vec<u8>,
+    bytes: ArcSlice<u8>,
 }
 
 impl Model for Frame {
     ghost use Rattle.std.specs.Prelude.{List, ℕ};
+    ghost use Rattle.std.specs.Arc.{arc_slice_items};
 
     ghost Value = { List ℕ };
 
-    ghost view = { λ f. f.bytes.items };
+    ghost view = { λ f. arc_slice_items f.bytes };
 }
 
 impl Frame {
@@ -27,16 +29,16 @@ impl Frame {
     pub fn copy_of(alloc: Global, bytes: &[u8]) -> Result<Frame, NoMemory>
         ensures { IfOk result (λ f. f ≡ bytes.now) }
     {
-        Ok(Frame {
-            bytes: Vec::from_slice(alloc, bytes)?,
-        })
+        Frame::of_bytes(Vec::from_slice(alloc, bytes)?)
     }
 
-    /// A frame of these bytes, which are moved and not copied.
-    pub fn of_bytes(bytes: Vec<u8>) -> Frame
-        ensures { result ≡ bytes.items }
+    /// A frame of these bytes, which are moved and not copied. What is made shares them: a clone takes no bytes.
+    pub fn of_bytes(bytes: Vec<u8>) -> Result<Frame, NoMemory>
+        ensures { IfOk result (λ f. f ≡ bytes.items) }
     {
-        Frame { bytes }
+        Ok(Frame {
+            bytes: ArcSlice::from_vec(bytes)?,
+        })
     }
 
     pub fn bytes(&self) -> &[u8]

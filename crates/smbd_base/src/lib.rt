@@ -14,6 +14,7 @@ mod frame_laws;
 mod laws;
 mod limits;
 mod message;
+mod negotiation_laws;
 mod next;
 mod no_memory;
 mod page_event;
@@ -23,12 +24,13 @@ mod right;
 mod tests;
 mod token;
 mod worked;
+mod worked_pages;
 
 pub use agreed::Agreed;
 pub use bytes::{u16_at, u32_at};
 pub use end_id::EndId;
 pub use event::Event;
-pub use faults::{FrameFault, SubmitFault, TakeFault};
+pub use faults::{Broken, FrameFault, NegotiateFault, SubmitFault, TakeFault};
 pub use frame::Frame;
 pub use frame_laws::{written_frames_are_read, written_frames_grant, written_lengths};
 pub use laws::{
@@ -36,6 +38,10 @@ pub use laws::{
 };
 pub use limits::{EndLimits, LimitFault};
 pub use message::Message;
+pub use negotiation_laws::{
+    agreements_are_lawful, later_bytes_change_nothing, messages_without_a_fault_are_lawful,
+    texts_of_equal_ends, written_requests_are_read, written_responses_are_read,
+};
 pub use next::Next;
 pub use no_memory::NoMemory;
 pub use page_event::PageEvent;
@@ -43,3 +49,4 @@ pub use page_laws::{lists_of_passes_fit, steps_make_page_lives};
 pub use right::Right;
 pub use token::Token;
 pub use worked::worked_histories;
+pub use worked_pages::worked_page_lists;

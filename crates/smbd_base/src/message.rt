@@ -3,20 +3,22 @@ ghost use Rattle.std.specs.Prelude.{◌≡◌, ◌==◌, length, IfOk};
 use crate::no_memory::NoMemory;
 use std::alloc::Global;
 use std::marker::Model;
+use std::sync::ArcSlice;
 
 /// The bytes of one message of the layer above, which data transfer messages carry in one piece or several
 /// (MS-SMBD 3.1.5.1). Contracts see the list of the bytes.
 #[derive(Clone, Debug, Drop)]
 pub struct Message {
-    bytes: Vec<u8>,
+    bytes: ArcSlice<u8>,
 }
 
 impl Model for Message {
     ghost use Rattle.std.specs.Prelude.{List, ℕ};
+    ghost use Rattle.std.specs.Arc.{arc_slice_items};
 
     ghost Value = { List ℕ };
 
-    ghost view = { λ m. m.bytes.items };
+    ghost view = { λ m. arc_slice_items m.bytes };
 }
 
 impl Message {
@@ -24,16 +26,16 @@ impl Message {
     pub fn copy_of(alloc: Global, bytes: &[u8]) -> Result<Message, NoMemory>
         ensures { IfOk result (λ m. m ≡ bytes.now) }
     {
-        Ok(Message {
-            bytes: Vec::from_slice(alloc, bytes)?,
-        })
+        Message::of_bytes(Vec::from_slice(alloc, bytes)?)
     }
 
-    /// A message of these bytes, which are moved and not copied.
-    pub fn of_bytes(bytes: Vec<u8>) -> Message
-        ensures { result ≡ bytes.items }
+    /// A message of these bytes, which are moved and not copied. What is made shares them: a clone takes no bytes.
+    pub fn of_bytes(bytes: Vec<u8>) -> Result<Message, NoMemory>
+        ensures { IfOk result (λ m. m ≡ bytes.items) }
     {
-        Message { bytes }
+        Ok(Message {
+            bytes: ArcSlice::from_vec(bytes)?,
+        })
     }
 
     pub fn bytes(&self) -> &[u8]

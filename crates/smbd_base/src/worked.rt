@@ -1,4 +1,4 @@
-ghost use Rattle.smbd_base.specs.Worked.{OpensSo, CarriesSo, RefusesSo, CreditsSo, CutsSo};
+ghost use Rattle.smbd_base.specs.Worked.{OpensSo, CarriesSo, RefusesSo, CreditsSo, CutsSo, GathersSo, NegotiatesSo};
 
 /// Worked histories: what comes next, what is counted and what is delivered in small examples.
 /// It does nothing. Its contract is proved by computation, and shows what the definitions say.
@@ -8,4 +8,6 @@ pub fn worked_histories()
     ensures refusal { RefusesSo }
     ensures credits { CreditsSo }
     ensures pieces { CutsSo }
+    ensures gathering { GathersSo }
+    ensures negotiation { NegotiatesSo }
 {}

@@ -1,5 +1,5 @@
 -- What an end delivers is the front of what its peer submitted.
-use Rattle.std.proofs.Common.{◌≡◌, ℕ, ◌<◌, List, [], ◌∷◌, ◌++◌, take, drop, Option, Some, None, option_to_list, refl, ap, sym, ◌∙◌, append-nil, append_assoc, take-append-drop, arith}
+use Rattle.std.proofs.Common.{◌≡◌, ℕ, List, [], ◌∷◌, ◌++◌, take, drop, Option, Some, None, option_to_list, refl, ap, sym, ◌∙◌, append-nil, append_assoc, take-append-drop}
 use mathlib.Core.List.{IsPrefix}
 use Rattle.std.proofs.lemmas.List.Concat.{flat_map-append}
 use Rattle.smbd_base.specs.declared.end_id.EndId.{EndId}
@@ -12,12 +12,13 @@ use Rattle.smbd_base.specs.DataFrame.{data_frame_of}
 use Rattle.smbd_base.specs.Delivery.{and_piece, messages_delivered, pieces_taken, piece_in, piece_brought}
 use Rattle.smbd_base.specs.Joint.{AreAccepted, AreJoint, emitted_frames, taken_frames}
 use Rattle.smbd_base.specs.Pieces.{Piece}
-use Rattle.smbd_base.specs.History.{take_fault, messages_submitted, payload_size, pieces_sent, IsLegal}
+use Rattle.smbd_base.specs.History.{take_fault, bytes_expected, messages_submitted, payload_size, pieces_sent, IsLegal}
 use Rattle.smbd_laws.proofs.Counting.{is_empty, unheard_is}
 use Rattle.smbd_laws.proofs.Gathering.{gathers}
 use Rattle.smbd_laws.proofs.Joining.{splits_each, filled_each}
 use Rattle.smbd_laws.proofs.Refusing.{brought-first, brought-later}
-use Rattle.smbd_laws.proofs.Sending.{pieces_carried, carried-more, later_frames, pieces_submitted, submitted_some, speaks}
+use Rattle.smbd_laws.proofs.Sending.{pieces_carried, carried-more, later_frames, speaks}
+use Rattle.smbd_laws.proofs.Submitting.{pieces_submitted, submitted_some, size_some}
 use Rattle.smbd_laws.proofs.Splitting.{split_front}
 
 -- ---- the pieces that were taken
@@ -53,23 +54,30 @@ carried_front (f ∷ front) more = (pieces_carried more, sym (flat_map-append (�
 
 -- ---- of two ends
 
+-- where an end took the first of a sender's frames, it took the first of the pieces that were sent
+pub taken_front : (x : EndId) (limits : Limits) (taker sender : List Event) → IsLawful limits → IsLegal (peer_of x) limits sender → AreAccepted x limits taker
+    → IsPrefix (taken_frames taker) (emitted_frames sender) → IsPrefix (pieces_taken x limits taker) (take (pieces_sent sender) (pieces_submitted limits sender))
+taken_front x limits taker sender lawful legal accepted front =
+    let k = carried_front (taken_frames taker) front.0 in (
+      k.0,
+      ap (λ (ps : List Piece). ps ++ k.0) (taken_carried x limits taker accepted) ∙ k.1
+          ∙ ap (λ (fs : List (List ℕ)). pieces_carried (later_frames fs)) front.1 ∙ (speaks (peer_of x) limits sender lawful legal).carried,
+    )
+
 -- an end delivers the front of what a sender submitted whose frames it took
 pub delivered_front : (x : EndId) (limits : Limits) (taker sender : List Event) → IsLawful limits → IsLegal (peer_of x) limits sender → AreAccepted x limits taker
     → IsPrefix (taken_frames taker) (emitted_frames sender) → IsPrefix (messages_delivered x limits taker) (messages_submitted sender)
 delivered_front x limits taker sender lawful legal accepted front =
-    let said = speaks (peer_of x) limits sender lawful legal in
     let all = pieces_submitted limits sender in
-    let k = carried_front (taken_frames taker) front.0 in
-    let sent : pieces_taken x limits taker ++ k.0 ≡ take (pieces_sent sender) all =
-    ap (λ (ps : List Piece). ps ++ k.0) (taken_carried x limits taker accepted) ∙ k.1 ∙ ap (λ (fs : List (List ℕ)). pieces_carried (later_frames fs)) front.1 ∙ said.carried in
+    let k = taken_front x limits taker sender lawful legal accepted front in
     let is : pieces_taken x limits taker ++ (k.0 ++ drop (pieces_sent sender) all) ≡ all =
-    sym (append_assoc (pieces_taken x limits taker) k.0 (drop (pieces_sent sender) all)) ∙ ap (λ (ps : List Piece). ps ++ drop (pieces_sent sender) all) sent
+    sym (append_assoc (pieces_taken x limits taker) k.0 (drop (pieces_sent sender) all)) ∙ ap (λ (ps : List Piece). ps ++ drop (pieces_sent sender) all) k.1
     ∙ take-append-drop (pieces_sent sender) all in
-    let size : 0 < payload_size limits = omega (arith, lawful.send_size.0, lawful.receive_size.0) in
+    let size = size_some limits lawful in
     let h = gathers x limits taker in
-    split_front (pieces_taken x limits taker) (k.0 ++ drop (pieces_sent sender) all) all (messages_delivered x limits taker) (messages_submitted sender) h.rest [] h.expected 0
-    (filled_each (payload_size limits) (messages_submitted sender) size) h.is.splits
-    (splits_each (payload_size limits) (messages_submitted sender) size (submitted_some (peer_of x) limits sender legal)) is
+    split_front (pieces_taken x limits taker) (k.0 ++ drop (pieces_sent sender) all) all (messages_delivered x limits taker) (messages_submitted sender)
+    h.rest [] (bytes_expected x limits taker) 0 (filled_each (payload_size limits) (messages_submitted sender) size) h.is.splits
+    (splits_each (payload_size limits) (messages_submitted sender) size (submitted_some (peer_of x) limits sender lawful legal)) is
 
 pub server_delivers : (limits : Limits) (client server : List Event) → IsLawful limits → AreJoint limits limits client server
     → IsPrefix (messages_delivered Server limits server) (messages_submitted client)

@@ -7,10 +7,12 @@ use Rattle.smbd_base.specs.declared.end_id.EndId.{EndId}
 use Rattle.smbd_base.specs.declared.event.Event.{Event}
 use Rattle.smbd_base.specs.declared.event.Event.TheVariants.{Post, Submit, Emit, Take, Cut}
 use Rattle.smbd_base.specs.Limits.{Limits}
-use Rattle.smbd_base.specs.Pieces.{Piece, Gathered, with_piece, joined, IsRun, IsWhole, AreWhole, IsRest, AreFilled, SplitsInto}
+use Rattle.smbd_base.specs.Pieces.{Piece, Gathered, with_piece, gather_fault, joined, IsRun, IsWhole, AreWhole, IsRest, AreFilled, SplitsInto}
 use Rattle.smbd_base.specs.Delivery.{Delivers, and_piece, gather, gathered, messages_delivered, pieces_taken, piece_brought}
 use Rattle.smbd_laws.proofs.Splitting.{pieces_in}
-use Rattle.smbd_laws.proofs.Refusing.{IsTakeableIn, brought-takeable}
+use Rattle.smbd_base.specs.History.{bytes_expected}
+use Rattle.smbd_laws.proofs.Refusing.{IsTakeableIn, brought-takeable, expected_behind, expected-take}
+use Rattle.smbd_laws.proofs.Fitting.{fits_begun}
 
 -- ---- a run, and one piece more
 
@@ -102,47 +104,45 @@ gathered_more pieces g rest expected p h next = by_end (p.remaining == 0) refl w
 
 -- ---- of a past
 
--- Until messages are gathered, nothing is expected.
-pub record Gathers (pieces : List Piece) (g : Gathered) : Type 0 where
+-- the pieces, none of them empty, split into the gathered messages, and a rest that expects so many bytes
+pub record Gathers (pieces : List Piece) (g : Gathered) (expected : ℕ) : Type 0 where
   pub rest : List Piece
-  pub expected : ℕ
   pub is : IsGathered pieces g rest expected
-  pub none : expected ≡ 0
   pub filled : AreFilled pieces
 
--- where nothing is expected, each piece continues
-continues : (rest : List Piece) (expected : ℕ) (p : Piece) → IsRest expected rest → expected ≡ 0 → Continues rest expected p
-continues [] expected p r none = tt
-continues (q ∷ later) expected p r none = absurd (omega (arith, r.0))
+-- a piece that fits continues
+continues : (max expected : ℕ) (rest : List Piece) (p : Piece) → IsRest expected rest → gather_fault max expected (length p.payload) p.remaining ≡ None → Continues rest expected p
+continues max expected [] p r fits = tt
+continues max expected (q ∷ later) p r fits = fits_begun max expected (length p.payload) p.remaining r.0 fits
 
-gathers_more : (pieces : List Piece) (g : Gathered) (o : Option Piece) → Gathers pieces g → IsTakeableIn o → Gathers (and_piece pieces o) (gather g o)
-gathers_more pieces g None h t = h
-gathers_more pieces g (Some p) h t = record {
+gathers_more : (max expected : ℕ) (pieces : List Piece) (g : Gathered) (o : Option Piece) → Gathers pieces g expected → IsTakeableIn max expected o
+    → Gathers (and_piece pieces o) (gather g o) (expected_behind expected o)
+gathers_more max expected pieces g None h t = h
+gathers_more max expected pieces g (Some p) h t = record {
   rest = rest_after h.rest p;
-  expected = p.remaining;
-  is = gathered_more pieces g h.rest h.expected p h.is (continues h.rest h.expected p h.is.splits.last h.none);
-  none = t.last;
+  is = gathered_more pieces g h.rest expected p h.is (continues max expected h.rest p h.is.splits.last t.fits);
   filled = filled_more pieces p h.filled t.filled;
 }
 
-pub gathers : (side : EndId) (limits : Limits) (past : List Event) → Gathers (pieces_taken side limits past) (gathered side limits past)
+-- the rest expects the bytes that are still to come
+pub gathers : (side : EndId) (limits : Limits) (past : List Event) → Gathers (pieces_taken side limits past) (gathered side limits past) (bytes_expected side limits past)
 gathers side limits [] = record {
   rest = [];
-  expected = 0;
   is = record { splits = record { runs = []; whole = tt; all = refl; each = refl; last = refl }; begun = refl };
-  none = refl;
   filled = tt;
 }
 gathers side limits (Post n ∷ past) = gathers side limits past
 gathers side limits (Submit m ∷ past) = gathers side limits past
 gathers side limits (Emit f ∷ past) = gathers side limits past
 gathers side limits (Take f ∷ past) =
-    gathers_more (pieces_taken side limits past) (gathered side limits past) (piece_brought side limits past f) (gathers side limits past) (brought-takeable side limits past f)
+    subst (λ (n : ℕ). Gathers (pieces_taken side limits (Take f ∷ past)) (gathered side limits (Take f ∷ past)) n) (sym (expected-take side limits past f))
+    (gathers_more limits.fragmented_size (bytes_expected side limits past) (pieces_taken side limits past) (gathered side limits past) (piece_brought side limits past f)
+    (gathers side limits past) (brought-takeable side limits past f))
 gathers side limits (Cut ∷ past) = gathers side limits past
 
 -- the pieces that were taken split into the delivered messages
 pub delivers : (side : EndId) (limits : Limits) (past : List Event) → Delivers side limits past (messages_delivered side limits past)
-delivers side limits past = let h = gathers side limits past in (h.rest, h.expected, h.is.splits)
+delivers side limits past = let h = gathers side limits past in (h.rest, h.is.splits)
 
 -- no piece that was taken is empty
 pub taken-filled : (side : EndId) (limits : Limits) (past : List Event) → AreFilled (pieces_taken side limits past)

@@ -1,5 +1,5 @@
 -- The pieces of a message make the message.
-use Rattle.std.proofs.Common.{◌≡◌, ℕ, zero, suc, ◌+◌, ◌*◌, ◌-◌, ◌/◌, ◌≤◌, ◌<◌, List, [], ◌∷◌, ◌++◌, length, take, drop, map, refl, ap, sym, ◌∙◌, append-nil, arith}
+use Rattle.std.proofs.Common.{◌≡◌, ℕ, zero, suc, ◌+◌, ◌*◌, ◌-◌, ◌/◌, ◌≤◌, ◌<◌, min, List, [], ◌∷◌, ◌++◌, length, take, drop, map, refl, ap, sym, ◌∙◌, append-nil, arith}
 use Rattle.std.specs.List.{All, flat_map}
 use Rattle.std.proofs.lemmas.List.{length-take, length-drop, take-append-drop}
 use Rattle.std.proofs.lemmas.List.Elements.{All-nil, All-cons}
@@ -33,6 +33,21 @@ front_pieces-small zero size message = All-nil (λ (p : Piece). length p.payload
 front_pieces-small (suc count) size message =
     All-cons (λ (p : Piece). length p.payload ≤ size) _ _ (omega (arith, length-take size message)) (front_pieces-small count size (drop size message))
 
+-- ---- both
+
+-- a piece of at most so many bytes, of a message of at most so many; it is not empty
+pub record IsPart (size max : ℕ) (p : Piece) : Type 0 where
+  pub filled : 0 < length p.payload
+  pub short : length p.payload ≤ size
+  pub within : length p.payload + p.remaining ≤ max
+
+front_pieces-parts : (count size max : ℕ) (message : List ℕ) → 0 < size → count * size < length message + size → length message ≤ max → All (IsPart size max) (front_pieces count size message)
+front_pieces-parts zero size max message some few fits = All-nil (IsPart size max)
+front_pieces-parts (suc count) size max message some few fits =
+    let long : length (take size message) ≡ min size (length message) = length-take size message in
+    All-cons (IsPart size max) _ _ (record { filled = omega arith; short = omega arith; within = omega arith })
+    (front_pieces-parts count size max (drop size message) some (omega (arith, length-drop size message)) (omega (arith, length-drop size message)))
+
 -- ---- just as many as it takes
 
 enough : (n size : ℕ) → 0 < size → n ≤ (n + size - 1) / size * size
@@ -63,6 +78,10 @@ pieces_of-filled size message some = front_pieces-filled (pieces_count size mess
 pub pieces_of-small : (size : ℕ) (message : List ℕ) → All (λ (p : Piece). length p.payload ≤ size) (pieces_of size message)
 unfolding pieces_of
 pieces_of-small size message = front_pieces-small (pieces_count size message) size message
+
+pub pieces_of-parts : (size max : ℕ) (message : List ℕ) → 0 < size → length message ≤ max → All (IsPart size max) (pieces_of size message)
+unfolding pieces_of
+pieces_of-parts size max message some fits = front_pieces-parts (pieces_count size message) size max message some (not_more (length message) size some) fits
 
 -- ---- the pieces of messages
 

@@ -1,8 +1,11 @@
 pub mod Splitting
 pub mod Joining
+pub mod Fitting
 pub mod Refusing
 pub mod Gathering
 pub mod Counting
+pub mod Submitting
 pub mod Sending
-pub mod Accepting
 pub mod Delivering
+pub mod Pacing
+pub mod Accepting

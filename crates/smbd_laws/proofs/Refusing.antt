@@ -1,17 +1,19 @@
 -- What it means that a frame is not refused.
-use Rattle.std.proofs.Common.{◌≡◌, ℕ, ◌<◌, ◌≤◌, ◌==◌, nat_lt, nat_eq, Bool, true, false, cond, List, length, Option, Some, None, is_none, Result, Ok, Err, refl, arith}
+use Rattle.std.proofs.Common.{◌≡◌, ℕ, ◌<◌, ◌≤◌, ◌==◌, nat_lt, nat_eq, Bool, true, false, not, ◌&&◌, cond, List, ◌∷◌, length, Option, Some, None, is_none, Result, Ok, Err, is_ok, refl, ap, arith}
 use Rattle.std.proofs.lemmas.Bool.Decides.{nat_tests}
 use lib.Pointwise.{pointwise, bytes_decides}
 use Rattle.smbd_base.specs.declared.end_id.EndId.{EndId}
 use Rattle.smbd_base.specs.declared.event.Event.{Event}
+use Rattle.smbd_base.specs.declared.event.Event.TheVariants.{Take}
+use Rattle.smbd_base.specs.declared.faults.Broken.{Broken}
 use Rattle.smbd_base.specs.declared.faults.FrameFault.{FrameFault}
 use Rattle.smbd_base.specs.declared.faults.TakeFault.{TakeFault}
 use Rattle.smbd_base.specs.declared.faults.TakeFault.TheVariants as faults
 use Rattle.smbd_base.specs.Limits.{Limits}
 use Rattle.smbd_base.specs.Counts.{is_unheard, is_out_of_turn}
 use Rattle.smbd_base.specs.DataFrame.{DataFrame, data_frame_of}
-use Rattle.smbd_base.specs.Pieces.{Piece}
-use Rattle.smbd_base.specs.History.{take_fault, data_fault, awaited_frame}
+use Rattle.smbd_base.specs.Pieces.{Piece, gather_fault}
+use Rattle.smbd_base.specs.History.{take_fault, fault_expecting, data_fault, broken_fault, bytes_expected, expected_after, awaited_frame}
 use Rattle.smbd_base.specs.Delivery.{piece_in, piece_brought}
 
 -- ---- the last test of a frame
@@ -25,18 +27,18 @@ last_test false false false fixed over later e heard = e
 
 -- a later frame that is not refused is a data transfer message that may be taken
 accepted_data : (side : EndId) (limits : Limits) (past : List Event) (frame : List ℕ) → is_none (take_fault side limits past frame) ≡ true → is_unheard past ≡ false
-    → is_none (data_fault (data_frame_of frame)) ≡ true
-unfolding take_fault
+    → is_none (data_fault limits.fragmented_size (bytes_expected side limits past) (data_frame_of frame)) ≡ true
+unfolding take_fault fault_expecting
 accepted_data side limits past frame e heard =
     last_test (is_out_of_turn side past) (nat_lt limits.receive_size (length frame)) (is_unheard past) (pointwise nat_eq frame (awaited_frame side limits))
-    (faults.Oversize (length frame) limits.receive_size) (data_fault (data_frame_of frame)) e heard
+    (faults.Oversize (length frame) limits.receive_size) (data_fault limits.fragmented_size (bytes_expected side limits past) (data_frame_of frame)) e heard
 
 -- ---- a frame that is not refused
 
 -- the first frame
 pub taken-first : (side : EndId) (limits : Limits) (past : List Event) (frame : List ℕ) → is_out_of_turn side past ≡ false → length frame ≤ limits.receive_size
     → is_unheard past ≡ true → frame ≡ awaited_frame side limits → take_fault side limits past frame ≡ None
-unfolding take_fault
+unfolding take_fault fault_expecting
 taken-first side limits past frame turn short unheard is =
     let small : nat_lt limits.receive_size (length frame) ≡ false = grind (arith, nat_tests) in
     let same : pointwise nat_eq frame (awaited_frame side limits) ≡ true = (bytes_decides frame (awaited_frame side limits)).1 is in
@@ -44,38 +46,87 @@ taken-first side limits past frame turn short unheard is =
 
 -- a later frame
 pub taken-later : (side : EndId) (limits : Limits) (past : List Event) (frame : List ℕ) → is_out_of_turn side past ≡ false → length frame ≤ limits.receive_size
-    → is_unheard past ≡ false → data_fault (data_frame_of frame) ≡ None → take_fault side limits past frame ≡ None
-unfolding take_fault
+    → is_unheard past ≡ false → data_fault limits.fragmented_size (bytes_expected side limits past) (data_frame_of frame) ≡ None → take_fault side limits past frame ≡ None
+unfolding take_fault fault_expecting
 taken-later side limits past frame turn short heard sound =
     let small : nat_lt limits.receive_size (length frame) ≡ false = grind (arith, nat_tests) in
     rw (turn, small, heard) sound
 
+-- ---- the piece that a data transfer message carries
+
+-- the piece, where there is one, fits the bytes that are expected
+abbrev pub FitsIn : ℕ → ℕ → Option Piece → Type 0
+FitsIn max expected None = Unit {0}
+FitsIn max expected (Some p) = gather_fault max expected (length p.payload) p.remaining ≡ None
+
+fits_by : (empty : Bool) (max expected : ℕ) (p : Piece) → FitsIn max expected (cond {A = Option Piece} empty None (Some p))
+    → cond empty None (broken_fault (gather_fault max expected (length p.payload) p.remaining)) ≡ None
+fits_by true max expected p fits = refl
+fits_by false max expected p fits = ap (λ (o : Option Broken). broken_fault o) fits
+
+-- a data transfer message whose piece fits is not refused
+pub data_fits : (max expected : ℕ) (r : Result DataFrame FrameFault) → is_ok r ≡ true → FitsIn max expected (piece_in r) → data_fault max expected r ≡ None
+data_fits max expected (Err fault) read fits = absurd cc
+data_fits max expected (Ok d) read fits = fits_by (length d.payload == 0) max expected (record { payload = d.payload; remaining = d.remaining }) fits
+
 -- ---- the piece that a frame brings
 
--- the piece is not empty, and until messages are gathered it is a whole message
-pub record IsTakeable (p : Piece) : Type 0 where
+-- the piece is not empty, and fits the bytes that are expected
+pub record IsTakeable (max expected : ℕ) (p : Piece) : Type 0 where
   pub filled : 0 < length p.payload
-  pub last : p.remaining ≡ 0
+  pub fits : gather_fault max expected (length p.payload) p.remaining ≡ None
 
-abbrev pub IsTakeableIn : Option Piece → Type 0
-IsTakeableIn None = Unit {0}
-IsTakeableIn (Some p) = IsTakeable p
+abbrev pub IsTakeableIn : ℕ → ℕ → Option Piece → Type 0
+IsTakeableIn max expected None = Unit {0}
+IsTakeableIn max expected (Some p) = IsTakeable max expected p
 
-takeable_in : (d : Result DataFrame FrameFault) → is_none (data_fault d) ≡ true → IsTakeableIn (piece_in d)
-takeable_in (Err fault) e = tt
-takeable_in (Ok d) e = by_tests (length d.payload == 0) (d.remaining == 0) refl refl where
-  by_tests : (empty last : Bool) → (length d.payload == 0) ≡ empty → (d.remaining == 0) ≡ last → IsTakeableIn (piece_in (Ok d))
-  by_tests true last is_empty is_last = rw is_empty tt
-  by_tests false true is_empty is_last = rw is_empty (record { filled = grind (arith, nat_tests); last = grind (arith, nat_tests) })
-  by_tests false false is_empty is_last = absurd (let f : is_none (data_fault (Ok d)) ≡ false = rw (is_empty, is_last) refl in (let b : ⊥ = cc in b))
+unbroken : (o : Option Broken) → is_none (broken_fault o) ≡ true → o ≡ None
+unbroken None e = refl
+unbroken (Some broken) e = absurd cc
+
+takeable_by : (empty : Bool) (max expected : ℕ) (p : Piece) → (length p.payload == 0) ≡ empty
+    → is_none (cond empty None (broken_fault (gather_fault max expected (length p.payload) p.remaining))) ≡ true → IsTakeableIn max expected (cond {A = Option Piece} empty None (Some p))
+takeable_by true max expected p is e = tt
+takeable_by false max expected p is e = record { filled = grind (arith, nat_tests); fits = unbroken (gather_fault max expected (length p.payload) p.remaining) e }
+
+takeable_in : (max expected : ℕ) (r : Result DataFrame FrameFault) → is_none (data_fault max expected r) ≡ true → IsTakeableIn max expected (piece_in r)
+takeable_in max expected (Err fault) e = tt
+takeable_in max expected (Ok d) e = takeable_by (length d.payload == 0) max expected (record { payload = d.payload; remaining = d.remaining }) refl e
 
 -- what a frame brings may be taken
-pub brought-takeable : (side : EndId) (limits : Limits) (past : List Event) (frame : List ℕ) → IsTakeableIn (piece_brought side limits past frame)
+pub brought-takeable : (side : EndId) (limits : Limits) (past : List Event) (frame : List ℕ)
+    → IsTakeableIn limits.fragmented_size (bytes_expected side limits past) (piece_brought side limits past frame)
 brought-takeable side limits past frame = by_tests (is_unheard past) (is_none (take_fault side limits past frame)) refl refl where
-  by_tests : (unheard accepted : Bool) → is_unheard past ≡ unheard → is_none (take_fault side limits past frame) ≡ accepted → IsTakeableIn (piece_brought side limits past frame)
+  by_tests : (unheard accepted : Bool) → is_unheard past ≡ unheard → is_none (take_fault side limits past frame) ≡ accepted
+      → IsTakeableIn limits.fragmented_size (bytes_expected side limits past) (piece_brought side limits past frame)
   by_tests true accepted u a = rw u tt
-  by_tests false true u a = rw (u, a) (takeable_in (data_frame_of frame) (accepted_data side limits past frame a u))
+  by_tests false true u a = rw (u, a) (takeable_in limits.fragmented_size (bytes_expected side limits past) (data_frame_of frame) (accepted_data side limits past frame a u))
   by_tests false false u a = rw (u, a) tt
+
+-- the bytes that are expected after this piece, where there is one
+abbrev pub expected_behind : ℕ → Option Piece → ℕ
+expected_behind expected None = expected
+expected_behind expected (Some p) = p.remaining
+
+expected_by : (empty : Bool) (expected : ℕ) (p : Piece) → cond empty expected p.remaining ≡ expected_behind expected (cond {A = Option Piece} empty None (Some p))
+expected_by true expected p = refl
+expected_by false expected p = refl
+
+expected_in : (expected : ℕ) (r : Result DataFrame FrameFault) → expected_after expected r ≡ expected_behind expected (piece_in r)
+expected_in expected (Err fault) = refl
+expected_in expected (Ok d) = expected_by (length d.payload == 0) expected (record { payload = d.payload; remaining = d.remaining })
+
+brought_by : (brought : Bool) (expected : ℕ) (r : Result DataFrame FrameFault)
+    → cond brought (expected_after expected r) expected ≡ expected_behind expected (cond {A = Option Piece} brought (piece_in r) None)
+brought_by true expected r = expected_in expected r
+brought_by false expected r = refl
+
+-- once a frame was taken, the bytes that are expected are those behind the piece that it brings
+pub expected-take : (side : EndId) (limits : Limits) (past : List Event) (frame : List ℕ)
+    → bytes_expected side limits (Take frame ∷ past) ≡ expected_behind (bytes_expected side limits past) (piece_brought side limits past frame)
+unfolding take_fault
+expected-take side limits past frame =
+    brought_by (not (is_unheard past) && is_none (take_fault side limits past frame)) (bytes_expected side limits past) (data_frame_of frame)
 
 -- a later frame that is not refused brings the piece in it
 pub brought-later : (side : EndId) (limits : Limits) (past : List Event) (frame : List ℕ) → is_unheard past ≡ false → take_fault side limits past frame ≡ None

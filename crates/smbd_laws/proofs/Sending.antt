@@ -1,124 +1,58 @@
 -- The frames of an end that follows its rules: the negotiation message, and then the pieces of what was submitted.
-use Rattle.std.proofs.Common.{◌≡◌, inl, inr, ℕ, zero, suc, ◌+◌, ◌≤◌, ◌<◌, ◌==◌, nat_lt, nat_le, Bool, true, false, not, ◌&&◌, cond, List, [], ◌∷◌, ◌++◌, length, take, drop, Option, Some, None, is_some, option_to_list, Result, Ok, Err, refl, ap, subst, sym, ◌∙◌, append-nil, arith}
+use Rattle.std.proofs.Common.{◌≡◌, inl, inr, ℕ, zero, suc, ◌+◌, ◌≤◌, ◌<◌, ◌==◌, nat_le, Bool, true, false, not, ◌&&◌, cond, List, [], ◌∷◌, ◌++◌, length, take, drop, Option, Some, None, is_some, option_to_list, Result, Ok, Err, is_ok, refl, ap, subst, sym, ◌∙◌, append-nil, arith}
 use Rattle.std.specs.List.{flat_map, All}
-use Rattle.std.proofs.lemmas.Bool.Decides.{nat_tests}
 use Rattle.std.proofs.lemmas.List.{length-append, take-append-le}
 use Rattle.std.proofs.lemmas.List.Concat.{flat_map-append}
-use Rattle.std.proofs.lemmas.List.Elements.{All-nil, All-cons, All-append, All-drop, All-head}
+use Rattle.std.proofs.lemmas.List.Elements.{All-drop, All-head}
 use Rattle.smbd_base.specs.declared.end_id.EndId.{EndId}
 use Rattle.smbd_base.specs.declared.event.Event.{Event}
 use Rattle.smbd_base.specs.declared.event.Event.TheVariants.{Post, Submit, Emit, Take, Cut}
 use Rattle.smbd_base.specs.declared.faults.FrameFault.{FrameFault}
-use Rattle.smbd_base.specs.declared.faults.SubmitFault.TheVariants as refusals
 use Rattle.smbd_base.specs.Limits.{Limits, IsLawful}
 use Rattle.smbd_base.specs.Counts.{credits_held, receives_grantable, is_silent}
 use Rattle.smbd_base.specs.DataFrame.{DataFrame, data_frame_of, frame_bytes}
 use Rattle.smbd_base.specs.Delivery.{piece_in}
 use Rattle.smbd_base.specs.Joint.{emitted_frames}
 use Rattle.smbd_base.specs.Pieces.{Piece, pieces_of}
-use Rattle.smbd_base.specs.History.{data_fault, opening_frame, data_frame_due, messages_submitted, message_limit, send_size, payload_size, pieces_sent, pieces_waiting, carries, is_open, is_agreed, is_welcomed, IsLegal}
+use Rattle.smbd_base.specs.History.{opening_frame, data_frame_due, send_size, payload_size, pieces_sent, pieces_waiting, carries, is_agreed, is_welcomed, IsLegal}
 use Rattle.smbd_base.proofs.BalanceLemmas.{balanced, silent_opening}
 use Rattle.smbd_base.proofs.FrameLaws.{data_frame_of-empty, data_frame_of-filled, length-frame_bytes-empty, length-frame_bytes-filled}
 use Rattle.smbd_base.proofs.Inversion.{Emits, emits, both, from_not}
-use Rattle.smbd_base.proofs.PieceLemmas.{whole, pieces_of-one}
 use Rattle.smbd_laws.proofs.Counting.{is_empty, silent_is}
-use Rattle.smbd_laws.proofs.Joining.{AreSome}
-
--- ---- the pieces that are submitted
-
--- a piece that one frame carries; until messages are cut, it is a whole message
-pub record IsSendable (limits : Limits) (p : Piece) : Type 0 where
-  pub filled : 0 < length p.payload
-  pub short : length p.payload ≤ payload_size limits
-  pub last : p.remaining ≡ 0
-
--- the pieces of the messages that were submitted
-abbrev pub pieces_submitted : Limits → List Event → List Piece
-pieces_submitted limits past = flat_map (pieces_of (payload_size limits)) (messages_submitted past)
-
-record IsSubmittable (limits : Limits) (m : List ℕ) : Type 0 where
-  some : 0 < length m
-  short : length m ≤ message_limit limits
-
-submittable : (limits : Limits) (m : List ℕ) (closed empty long : Bool) → (length m == 0) ≡ empty → nat_lt (message_limit limits) (length m) ≡ long
-    → cond closed (Some refusals.Closed) (cond empty (Some refusals.Empty) (cond long (Some refusals.TooLong) None)) ≡ None → IsSubmittable limits m
-submittable limits m true empty long is_empty is_long e = absurd cc
-submittable limits m false true long is_empty is_long e = absurd cc
-submittable limits m false false true is_empty is_long e = absurd cc
-submittable limits m false false false is_empty is_long e = record { some = grind (arith, nat_tests); short = grind (arith, nat_tests) }
-
-submitted-more : (limits : Limits) (past : List Event) (m : List ℕ)
-    → pieces_submitted limits (Submit m ∷ past) ≡ pieces_submitted limits past ++ pieces_of (payload_size limits) m
-submitted-more limits past m =
-    flat_map-append (pieces_of (payload_size limits)) (messages_submitted past) (m ∷ [])
-    ∙ ap (λ (ps : List Piece). pieces_submitted limits past ++ ps) (append-nil (pieces_of (payload_size limits) m))
-
-sendable_pieces : (limits : Limits) (m : List ℕ) → IsSubmittable limits m → All (IsSendable limits) (pieces_of (payload_size limits) m)
-sendable_pieces limits m h =
-    rw (pieces_of-one (payload_size limits) m h.some h.short)
-    (All-cons (IsSendable limits) (whole m) [] (record { filled = h.some; short = h.short; last = refl }) (All-nil (IsSendable limits)))
-
--- each piece of what was submitted may be sent
-pub sendable : (side : EndId) (limits : Limits) (past : List Event) → IsLegal side limits past → All (IsSendable limits) (pieces_submitted limits past)
-sendable side limits [] legal = All-nil (IsSendable limits)
-sendable side limits (Post n ∷ past) legal = sendable side limits past legal.1
-sendable side limits (Submit m ∷ past) legal =
-    let fits = submittable limits m (not (is_open side limits past)) (length m == 0) (nat_lt (message_limit limits) (length m)) refl refl legal.0 in
-    rw (submitted-more limits past m)
-    (All-append (IsSendable limits) (pieces_submitted limits past) (pieces_of (payload_size limits) m) (sendable side limits past legal.1) (sendable_pieces limits m fits))
-sendable side limits (Emit f ∷ past) legal = sendable side limits past legal.1
-sendable side limits (Take f ∷ past) legal = sendable side limits past legal.1
-sendable side limits (Cut ∷ past) legal = sendable side limits past legal.1
-
-some_more : (messages : List (List ℕ)) (m : List ℕ) → AreSome messages → 0 < length m → AreSome (messages ++ m ∷ [])
-some_more [] m s here = (here, tt)
-some_more (first ∷ messages) m s here = (s.0, some_more messages m s.1 here)
-
--- no message that was submitted is empty
-pub submitted_some : (side : EndId) (limits : Limits) (past : List Event) → IsLegal side limits past → AreSome (messages_submitted past)
-submitted_some side limits [] legal = tt
-submitted_some side limits (Post n ∷ past) legal = submitted_some side limits past legal.1
-submitted_some side limits (Submit m ∷ past) legal =
-    let fits = submittable limits m (not (is_open side limits past)) (length m == 0) (nat_lt (message_limit limits) (length m)) refl refl legal.0 in
-    some_more (messages_submitted past) m (submitted_some side limits past legal.1) fits.some
-submitted_some side limits (Emit f ∷ past) legal = submitted_some side limits past legal.1
-submitted_some side limits (Take f ∷ past) legal = submitted_some side limits past legal.1
-submitted_some side limits (Cut ∷ past) legal = submitted_some side limits past legal.1
+use Rattle.smbd_laws.proofs.Fitting.{not_zero}
+use Rattle.smbd_laws.proofs.Submitting.{IsSendable, sendable, pieces_submitted, submitted-more}
 
 -- ---- the frame that carries a piece
 
--- the frame is short enough to be sent, is not refused for what it says, and carries this piece
+-- the frame is short enough to be sent, can be read, and carries this piece
 record IsSentWith (limits : Limits) (frame : List ℕ) (o : Option Piece) : Type 0 where
   short : length frame ≤ send_size limits
-  sound : data_fault (data_frame_of frame) ≡ None
+  read : is_ok (data_frame_of frame) ≡ true
   brings : piece_in (data_frame_of frame) ≡ o
 
 abbrev pub first_of : List Piece → Option Piece
 first_of [] = None
 first_of (p ∷ pieces) = Some p
 
-not_zero : (n : ℕ) → 0 < n → (n == 0) ≡ false
-not_zero n some = grind (arith, nat_tests)
-
 sent_empty : (limits : Limits) (grantable : ℕ) → IsLawful limits → grantable < 65536 → IsSentWith limits (frame_bytes limits.credits grantable false 0 []) None
 sent_empty limits grantable lawful small =
-    let read = data_frame_of-empty limits.credits grantable false 0 (omega (arith, lawful.credits.1)) small in
+    let says = data_frame_of-empty limits.credits grantable false 0 (omega (arith, lawful.credits.1)) small in
     record {
       short = omega (arith, length-frame_bytes-empty limits.credits grantable false 0, lawful.send_size.0, lawful.receive_size.0);
-      sound = rw read refl;
-      brings = rw read refl;
+      read = rw says refl;
+      brings = rw says refl;
     }
 
 sent_filled : (limits : Limits) (grantable : ℕ) (flag : Bool) (p : Piece) → IsLawful limits → grantable < 65536 → IsSendable limits p
     → IsSentWith limits (frame_bytes limits.credits grantable flag p.remaining p.payload) (Some p)
 sent_filled limits grantable flag p lawful small fits =
-    let read = data_frame_of-filled limits.credits grantable flag p.remaining p.payload (omega (arith, lawful.credits.1)) small
-    (omega (arith, fits.last)) fits.filled (omega (arith, fits.short, lawful.send_size.1)) in
+    let says = data_frame_of-filled limits.credits grantable flag p.remaining p.payload (omega (arith, lawful.credits.1)) small
+    (omega (arith, fits.within, lawful.fragmented_size.1)) fits.filled (omega (arith, fits.short, lawful.send_size.1)) in
     let some = not_zero (length p.payload) fits.filled in
     record {
       short = omega (arith, length-frame_bytes-filled limits.credits grantable flag p.remaining p.payload fits.filled, fits.short, lawful.send_size.0, lawful.receive_size.0);
-      sound = rw (read, some, fits.last) refl;
-      brings = rw (read, some) refl;
+      read = rw says refl;
+      brings = rw (says, some) refl;
     }
 
 due_sent : (limits : Limits) (held grantable : ℕ) (waiting : List Piece) → IsLawful limits → grantable < 65536 → All (IsSendable limits) waiting
@@ -143,10 +77,10 @@ abbrev pub later_frames : List (List ℕ) → List (List ℕ)
 later_frames [] = []
 later_frames (f ∷ frames) = frames
 
--- a data transfer message that a peer of these limits does not refuse for what it says
+-- a data transfer message that a peer of these limits can receive and read
 pub record IsSound (limits : Limits) (frame : List ℕ) : Type 0 where
   pub short : length frame ≤ send_size limits
-  pub sound : data_fault (data_frame_of frame) ≡ None
+  pub read : is_ok (data_frame_of frame) ≡ true
 
 abbrev pub AreSound : Limits → List (List ℕ) → Type 0
 AreSound limits [] = Unit {0}
@@ -212,7 +146,7 @@ speaks_later first limits (g ∷ frames) f sent pieces h some is =
     let more = front_more frames f sent pieces (drop sent pieces) h.carried h.within refl is.brings in
     record {
       opens = h.opens;
-      sound = sound_more limits frames f h.sound (record { short = is.short; sound = is.sound });
+      sound = sound_more limits frames f h.sound (record { short = is.short; read = is.read });
       carried = more.0;
       within = more.1;
     }
@@ -248,7 +182,7 @@ speaks_emit side limits past f lawful legal e h =
           let agreed : is_agreed side limits past ≡ true = (both (is_agreed side limits past) _ later.1).0 in
           let spoken : is_silent past ≡ false = from_not (is_silent past) (both (is_welcomed side limits past) _ agreed).1 in
           let small : receives_grantable side past < 65536 = omega (arith, b.posted, b.taken, lawful.credits.1) in
-          let fit : All (IsSendable limits) (pieces_waiting limits past) = All-drop (IsSendable limits) (pieces_sent past) (pieces_submitted limits past) (sendable side limits past legal) in
+          let fit : All (IsSendable limits) (pieces_waiting limits past) = All-drop (IsSendable limits) (pieces_sent past) (pieces_submitted limits past) (sendable side limits past lawful legal) in
           let is : IsSentWith limits f (first_of (pieces_waiting limits past)) =
           subst (λ (g : List ℕ). IsSentWith limits g (first_of (pieces_waiting limits past))) later.2
           (due_sent limits (credits_held side past) (receives_grantable side past) (pieces_waiting limits past) lawful small fit) in

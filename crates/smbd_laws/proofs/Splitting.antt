@@ -62,7 +62,7 @@ same_expected (p ∷ later) expected also a b = omega (arith, a.1.0, b.1.0)
 
 -- ---- all runs
 
-filled_after : (front back : List Piece) → AreFilled (front ++ back) → AreFilled back
+pub filled_after : (front back : List Piece) → AreFilled (front ++ back) → AreFilled back
 filled_after [] back f = f
 filled_after (p ∷ front) back f = filled_after front back f.1
 
@@ -97,7 +97,7 @@ one_way pieces messages others rest other expected also filled s t =
 -- ---- the first pieces
 
 -- the runs at the front of pieces are the first of their runs
-front_runs : (runs others : List (List Piece)) (tail other : List Piece) (also : ℕ) → AreWhole runs → AreWhole others → IsRest also other
+pub front_runs : (runs others : List (List Piece)) (tail other : List Piece) (also : ℕ) → AreWhole runs → AreWhole others → IsRest also other
     → AreFilled (pieces_in runs ++ tail) → AreFilled (pieces_in others ++ other) → pieces_in runs ++ tail ≡ pieces_in others ++ other → IsPrefix runs others
 front_runs [] others tail other also w v s filled full e = (others, refl)
 front_runs (run ∷ runs) [] tail other also w v s filled full e =

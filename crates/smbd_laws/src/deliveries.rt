@@ -1,16 +1,17 @@
 //! The messages that an end delivers (MS-SMBD 3.1.5.8).
 
-ghost use Rattle.std.specs.Prelude.{List};
+ghost use Rattle.std.specs.Prelude.{◌≡◌, ◌⊎◌, ◌+◌, ◌<◌, ◌≤◌, ℕ, List, length, take};
+ghost use Rattle.std.specs.List.{flat_map};
 ghost use mathlib.Core.List.{IsPrefix};
 ghost use Rattle.smbd_base.specs.declared.end_id.EndId.{EndId as Side};
 ghost use Rattle.smbd_base.specs.declared.end_id.EndId.TheVariants.{Client, Server};
 ghost use Rattle.smbd_base.specs.declared.event.Event.{Event as Happening};
 ghost use Rattle.smbd_base.specs.Limits.{Limits, IsLawful};
 ghost use Rattle.smbd_base.specs.Counts.{peer_of};
-ghost use Rattle.smbd_base.specs.Pieces.{AreFilled};
+ghost use Rattle.smbd_base.specs.Pieces.{AreFilled, pieces_of};
 ghost use Rattle.smbd_base.specs.Delivery.{Delivers, messages_delivered, pieces_taken};
 ghost use Rattle.smbd_base.specs.Joint.{AreJoint, AreAccepted, emitted_frames, taken_frames};
-ghost use Rattle.smbd_base.specs.History.{messages_submitted, IsLegal};
+ghost use Rattle.smbd_base.specs.History.{messages_submitted, payload_size, pieces_sent, IsLegal};
 
 /// The pieces that an end took, none of them empty, split into just the messages that it delivered.
 pub fn deliveries_are_splits()
@@ -28,4 +29,14 @@ pub fn delivery()
     ensures either { (side : Side) (limits : Limits) (taker sender : List Happening) → IsLawful limits → IsLegal (peer_of side) limits sender
         → AreAccepted side limits taker → IsPrefix (taken_frames taker) (emitted_frames sender)
         → IsPrefix (messages_delivered side limits taker) (messages_submitted sender) }
+{}
+
+/// An end that has taken all frames of its peer has delivered just those messages of which every piece was sent: the first
+/// `n` that were submitted, where all their pieces were sent, and not all of the next one, or there is none.
+pub fn delivery_keeps_pace()
+    ensures { (side : Side) (limits : Limits) (taker sender : List Happening) (n : ℕ) → IsLawful limits → IsLegal (peer_of side) limits sender
+        → AreAccepted side limits taker → taken_frames taker ≡ emitted_frames sender
+        → length (flat_map (pieces_of (payload_size limits)) (take n (messages_submitted sender))) ≤ pieces_sent sender
+        → pieces_sent sender < length (flat_map (pieces_of (payload_size limits)) (take (n + 1) (messages_submitted sender))) ⊎ length (messages_submitted sender) ≤ n
+        → messages_delivered side limits taker ≡ take n (messages_submitted sender) }
 {}

@@ -5,7 +5,7 @@ mod deliveries;
 mod flight;
 mod pieces;
 
-pub use deliveries::{deliveries_are_splits, delivery};
+pub use deliveries::{deliveries_are_splits, delivery, delivery_keeps_pace};
 pub use flight::acceptance;
 pub use pieces::{pieces_join, pieces_split_one_way};
 

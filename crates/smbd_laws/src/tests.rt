@@ -9,4 +9,5 @@ fn laws_are_called() {
     deliveries_are_splits();
     acceptance();
     delivery();
+    delivery_keeps_pace();
 }

@@ -1,11 +1,12 @@
 use Rattle.std.proofs.Common.{refl}
 use Rattle.smbd_base.specs.DataFrame.{data_frame_of, header_bytes}
-use Rattle.smbd_base.specs.History.{next_event, take_fault}
+use Rattle.smbd_base.specs.History.{next_event, take_fault, fault_expecting}
 use Rattle.smbd_base.specs.Pieces.{pieces_of}
+use Rattle.smbd_base.specs.NegotiateMessages.{request_fault, fault_in_request, response_fault, fault_in_response}
 use Rattle.smbd_base.proofs.worked.worked_histories.Goals as goal
 
 pub returns-clause-opening : goal.returns-clause-opening
-unfolding next_event take_fault data_frame_of header_bytes pieces_of
+unfolding next_event take_fault fault_expecting data_frame_of header_bytes pieces_of
 returns-clause-opening c = record {
   client_posts = refl;
   server_posts = refl;
@@ -25,7 +26,7 @@ returns-clause-opening c = record {
 }
 
 pub returns-clause-delivery : goal.returns-clause-delivery
-unfolding next_event take_fault data_frame_of header_bytes pieces_of
+unfolding next_event take_fault fault_expecting data_frame_of header_bytes pieces_of
 returns-clause-delivery c = record {
   sent = refl;
   taken = refl;
@@ -37,7 +38,7 @@ returns-clause-delivery c = record {
 }
 
 pub returns-clause-refusal : goal.returns-clause-refusal
-unfolding next_event take_fault data_frame_of header_bytes pieces_of
+unfolding next_event take_fault fault_expecting data_frame_of header_bytes pieces_of
 returns-clause-refusal c = record {
   early = refl;
   uncounted = refl;
@@ -52,7 +53,7 @@ returns-clause-refusal c = record {
 }
 
 pub returns-clause-credits : goal.returns-clause-credits
-unfolding next_event take_fault data_frame_of header_bytes pieces_of
+unfolding next_event take_fault fault_expecting data_frame_of header_bytes pieces_of
 returns-clause-credits c = record {
   grants = refl;
   first = refl;
@@ -67,3 +68,55 @@ returns-clause-credits c = record {
 pub returns-clause-pieces : goal.returns-clause-pieces
 unfolding pieces_of
 returns-clause-pieces c = record { pieces = refl; one = refl }
+
+pub returns-clause-gathering : goal.returns-clause-gathering
+unfolding next_event take_fault fault_expecting data_frame_of header_bytes pieces_of
+returns-clause-gathering c = record {
+  taken = refl;
+  expected = refl;
+  nothing_yet = refl;
+  goes_on = refl;
+  delivered = refl;
+  complete = refl;
+  between = refl;
+  total = refl;
+  too_long = refl;
+  longest = refl;
+  before = refl;
+  after = refl;
+}
+
+pub returns-clause-negotiation : goal.returns-clause-negotiation
+unfolding request_fault fault_in_request response_fault fault_in_response
+returns-clause-negotiation c = record {
+  requested = refl;
+  read = refl;
+  longer = refl;
+  reserved = refl;
+  short = refl;
+  newer = refl;
+  older = refl;
+  no_credits = refl;
+  small_frames = refl;
+  small_messages = refl;
+  version_first = refl;
+  zeros = refl;
+  answered = refl;
+  asked_alone = refl;
+  grantable_alone = refl;
+  answer_read = refl;
+  longer_answer = refl;
+  short_answer = refl;
+  other_version = refl;
+  none_asked = refl;
+  none_granted = refl;
+  one_too_many = refl;
+  long_frames = refl;
+  small_frames_back = refl;
+  small_messages_back = refl;
+  refused = refl;
+  refusal_read = refl;
+  short_refusal = refl;
+  server_agreed = refl;
+  client_agreed = refl;
+}
