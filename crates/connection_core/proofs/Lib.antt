@@ -1,4 +1,5 @@
-pub mod BroughtLemmas
+pub mod CutLemmas
+pub mod GatherLemmas
 pub mod HeldLemmas
 pub mod QueueLemmas
 pub mod TrackLemmas

@@ -1,12 +1,10 @@
 -- What an end answers.
-use Rattle.std.specs.Prelude.{◌≡◌, ◌⊎◌, ℕ, ◌==◌, Option, Some, None, Result, Ok, Err, List, ◌∷◌, length, if◌then◌else◌}
+use Rattle.std.specs.Prelude.{◌≡◌, ◌⊎◌, ℕ, Option, Some, None, List, ◌∷◌}
 use Rattle.smbd_base.specs.declared.event.Event.TheVariants.{Take}
-use Rattle.smbd_base.specs.declared.faults.FrameFault.{FrameFault}
 use Rattle.smbd_base.specs.declared.faults.SubmitFault.{SubmitFault}
 use Rattle.smbd_base.specs.declared.faults.SubmitFault.TheVariants as refusals
 use Rattle.smbd_base.specs.declared.faults.TakeFault.{TakeFault}
 use Rattle.smbd_base.specs.declared.faults.TakeFault.TheVariants as faults
-use Rattle.smbd_base.specs.DataFrame.{DataFrame}
 use Rattle.smbd_base.specs.History.{take_fault}
 use Rattle.connection_core.specs.Shown.{Shown}
 
@@ -20,8 +18,3 @@ abbrev pub IsTakeRefused : Shown → List ℕ → TakeFault → Shown → Type 0
 IsTakeRefused old frame fault new =
     ((fault ≡ faults.NoMemory) × (new ≡ old))
     ⊎ ((take_fault old.side old.limits old.past frame ≡ Some fault) × (new ≡ record old { past = Take frame ∷ old.past; prepared = None }))
-
--- the payload of a data transfer message, where it has one
-abbrev pub payload_of : Result DataFrame FrameFault → Option (List ℕ)
-payload_of (Err fault) = None
-payload_of (Ok d) = if length d.payload == 0 then None else Some d.payload

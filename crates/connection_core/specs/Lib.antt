@@ -1,4 +1,5 @@
 pub mod Answered
+pub mod Gatherer
 pub mod Holds
 pub mod Keeps
 pub mod Queue

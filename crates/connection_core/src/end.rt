@@ -1,6 +1,6 @@
 //! One end of a connection.
 
-ghost use Rattle.std.specs.Prelude.{◌≡◌, ◌++◌, [], ◌∷◌, ◌≤◌, true, false, is_some, reverse, IfOk, IfErr, OnOk, OnErr, option_to_list};
+ghost use Rattle.std.specs.Prelude.{◌≡◌, ◌++◌, [], ◌∷◌, ◌<◌, ◌≤◌, ◌^◌, length, true, false, is_some, reverse, IfOk, IfErr, OnOk, OnErr, option_to_list};
 ghost use Rattle.smbd_base.specs.declared.end_id.EndId.TheVariants as side;
 ghost use Rattle.smbd_base.specs.declared.event.Event.{Event as Happening};
 ghost use Rattle.smbd_base.specs.declared.event.Event.TheVariants as events;
@@ -9,12 +9,15 @@ ghost use Rattle.smbd_base.specs.Delivery.{messages_delivered, message_brought};
 ghost use Rattle.smbd_base.specs.History as spec;
 ghost use Rattle.smbd_base.specs.Limits.{IsLawful};
 ghost use Rattle.smbd_base.specs.Counts.{is_silent};
-ghost use Rattle.connection_core.specs.Queue.{waiting_after};
+ghost use Rattle.connection_core.specs.Gatherer.{gatherer_of};
+ghost use Rattle.connection_core.specs.Queue.{started, after_piece, waiting_after};
 ghost use Rattle.connection_core.specs.Answered.{IsSubmitFault, IsTakeRefused};
 
 use crate::frames;
 use crate::refused::{SubmitRefused, TakeRefused};
 use crate::track::Track;
+use fragmenter::Cutter;
+use reassembly::Gather;
 use smbd_base::{
     Agreed, EndId, EndLimits, Event, Frame, Message, Next, NoMemory, SubmitFault, TakeFault,
 };
@@ -28,7 +31,8 @@ use std::marker::Model;
 pub struct End {
     alloc: Global,
     track: Track,
-    waiting: VecDeque<Message>,
+    waiting: VecDeque<Cutter>,
+    gather: Gather,
     prepared: Option<Event>,
 }
 
@@ -41,7 +45,7 @@ impl Model for End {
 
     ghost view = { λ e. record { side = e.track.side; limits = e.track.limits; past = e.track.past; prepared = e.prepared } };
 
-    ghost invariant = { λ e. Holds e.track e.waiting.items e.prepared };
+    ghost invariant = { λ e. Holds e.track e.waiting.items e.gather e.prepared };
 }
 
 impl End {
@@ -66,12 +70,14 @@ impl End {
             alloc,
             track: Track::open(alloc, side, limits)?,
             waiting: VecDeque::new(alloc),
+            gather: Gather::open(alloc, limits.fragmented_size())?,
             prepared: None,
         })
     }
 
-    /// Accepts a message to be sent. It is refused, and handed back, after a cut or a refused frame (`Closed`), where
-    /// it has no byte (`Empty`), and where it is longer than may be sent (`TooLong`). A refusal changes nothing.
+    /// Accepts a message to be sent, in as many frames as it takes. It is refused, and handed back, after a cut or a
+    /// refused frame (`Closed`), where it has no byte (`Empty`), and where it is longer than may be sent (`TooLong`):
+    /// than 131,072 bytes before the end is agreed, and than its MaxFragmentedSize after. A refusal changes nothing.
     pub fn submit(&mut self, message: Message) -> Result<(), SubmitRefused>
         ensures accepted { OnOk result (spec.submit_fault self.old.side self.old.limits self.old.past message ≡ None) }
         ensures added { OnOk result (self.new ≡ record self.old { past = events.Submit message ∷ self.old.past; prepared = None }) }
@@ -135,8 +141,8 @@ impl End {
         self.track.is_ready()
     }
 
-    /// Takes a frame that the peer sent, and gives the message that it ends. A frame that is refused is handed back;
-    /// but for want of memory, its Take is then in the history, and the end can only be cut.
+    /// Takes a frame that the peer sent, and gives the message that it ends; a piece that ends none is kept. A frame that
+    /// is refused is handed back; but for want of memory, its Take is then in the history, and the end can only be cut.
     pub fn take(&mut self, frame: Frame) -> Result<Option<Message>, TakeRefused>
         requires { spec.is_ready self.old.side self.old.limits self.old.past ≡ true }
         ensures accepted { OnOk result (spec.take_fault self.old.side self.old.limits self.old.past frame ≡ None) }
@@ -147,8 +153,8 @@ impl End {
         ensures returned { IfErr result (λ r. r.frame ≡ frame) }
         ensures legal { spec.IsLegal self.new.side self.new.limits self.new.past }
     {
-        match self.track.take_fault(&frame) {
-            None => match brought(self.alloc, &mut self.track, &frame) {
+        match self.track.take_fault(&frame, &self.gather) {
+            None => match brought(&mut self.track, &mut self.gather, &frame) {
                 Ok(message) => {
                     self.track.add_take(frame, false);
                     self.prepared = None;
@@ -219,36 +225,58 @@ impl End {
     }
 }
 
-/// Keeps a copy of a message that was accepted, to be sent, with room for its Submit and for a Cut.
+/// Keeps a copy of a message that was accepted, to be cut and sent, with room for its Submit and for a Cut.
 fn keep(
     track: &mut Track,
-    waiting: &mut VecDeque<Message>,
+    waiting: &mut VecDeque<Cutter>,
     message: &Message,
 ) -> Result<(), NoMemory>
-    ensures kept { OnOk result (waiting.new.items ≡ waiting.old.items ++ message.now ∷ []) }
+    requires some { 0 < length message.now }
+    requires short { length message.now < 2 ^ 32 }
+    ensures kept { OnOk result (waiting.new.items ≡ waiting.old.items ++ started (spec.payload_size track.old.limits) message.now ∷ []) }
     ensures same { OnErr result (waiting.new.items ≡ waiting.old.items) }
     ensures track { track.new ≡ record track.old { room = track.new.room } }
     ensures room { OnOk result (2 ≤ track.new.room) }
     ensures more { track.old.room ≤ track.new.room }
 {
     track.reserve(2)?;
-    waiting.push_back(message.clone()?)?;
+    waiting.push_back(Cutter::start(message.clone()?, track.payload_size()))?;
     Ok(())
 }
 
-/// Lets go of the message that the next frame carries: the first frame of an end carries none.
-fn send_first(track: &Track, waiting: &mut VecDeque<Message>)
+/// Gives the piece that the next frame carries, and lets go of a message with its last piece. The first frame of an end
+/// carries none.
+fn send_first(track: &Track, waiting: &mut VecDeque<Cutter>)
     ensures { waiting.new.items ≡ waiting_after (is_silent track.now.past) waiting.old.items }
 {
     if !track.is_silent() {
+        send_piece(waiting);
+    }
+}
+
+fn send_piece(waiting: &mut VecDeque<Cutter>)
+    ensures { waiting.new.items ≡ after_piece waiting.old.items }
+{
+    let Some(cutter) = waiting.front_mut() else {
+        return;
+    };
+    let _ = cutter.next();
+    if cutter.rest() == 0 {
         drop(waiting.pop_front());
     }
 }
 
-/// The message that a frame brings that is not refused, with room for its Take and for a Cut.
-fn brought(alloc: Global, track: &mut Track, frame: &Frame) -> Result<Option<Message>, NoMemory>
-    requires { spec.take_fault track.old.side track.old.limits track.old.past frame.now ≡ None }
+/// The message that a frame ends that is not refused, with room for its Take and for a Cut. Its piece is then gathered.
+fn brought(
+    track: &mut Track,
+    gather: &mut Gather,
+    frame: &Frame,
+) -> Result<Option<Message>, NoMemory>
+    requires begun { gather.old ≡ gatherer_of track.old.side track.old.limits track.old.past }
+    requires fault { spec.take_fault track.old.side track.old.limits track.old.past frame.now ≡ None }
     ensures message { IfOk result (λ m. m ≡ message_brought track.old.side track.old.limits track.old.past frame.now) }
+    ensures added { OnOk result (gather.new ≡ gatherer_of track.old.side track.old.limits (events.Take frame.now ∷ track.old.past)) }
+    ensures same { OnErr result (gather.new ≡ gather.old) }
     ensures track { track.new ≡ record track.old { room = track.new.room } }
     ensures room { OnOk result (2 ≤ track.new.room) }
     ensures more { track.old.room ≤ track.new.room }
@@ -257,7 +285,7 @@ fn brought(alloc: Global, track: &mut Track, frame: &Frame) -> Result<Option<Mes
     if track.is_unheard() {
         return Ok(None);
     }
-    frames::payload(alloc, frame.bytes())
+    frames::gathered(frame.bytes(), gather)
 }
 
 /// A copy of a frame that is refused, with room for its Take and for a Cut.

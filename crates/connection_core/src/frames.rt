@@ -1,15 +1,16 @@
 //! The bytes of the frames that an end sends.
 
-ghost use Rattle.std.specs.Prelude.{◌≡◌, ◌+◌, ◌≤◌, ◌<◌, ◌++◌, length, take, drop, nat_eq, IfOk};
+ghost use Rattle.std.specs.Prelude.{◌≡◌, ◌+◌, ◌≤◌, ◌<◌, ◌++◌, length, take, drop, nat_eq, None, IfOk, OnOk, OnErr};
 ghost use Rattle.std.specs.Int.{w16, w32, to_le_bytes};
 ghost use lib.Pointwise.{pointwise};
 ghost use Rattle.smbd_base.specs.History.{opening_frame, awaited_frame, data_fault, asks};
 ghost use Rattle.smbd_base.specs.DataFrame.{data_frame_of};
 ghost use Rattle.smbd_base.specs.History as spec;
 ghost use Rattle.smbd_base.specs.Negotiation.{request_text, response_text};
-ghost use Rattle.connection_core.specs.Answered.{payload_of};
+ghost use Rattle.connection_core.specs.Gatherer.{gatherer_with, message_in};
 ghost use Rattle.transfer_msg.specs.Written.{header_text};
 
+use reassembly::Gather;
 use smbd_base::{EndId, EndLimits, Frame, Message, NoMemory, TakeFault};
 use std::alloc::Global;
 use transfer_msg::{Header, read, write};
@@ -97,7 +98,7 @@ pub fn data_frame(alloc: Global, header: &Header, payload: &[u8]) -> Result<Fram
     let mut bytes = Vec::with_capacity(alloc, length + payload.len())?;
     bytes.extend_from_slice(&head[..length])?;
     bytes.extend_from_slice(payload)?;
-    Ok(Frame::of_bytes(bytes))
+    Frame::of_bytes(bytes)
 }
 
 /// The longest frame that an end with these limits sends, in bytes.
@@ -118,16 +119,16 @@ pub fn payload_size(limits: &EndLimits) -> u32
     send_size(limits) - HEADER_SIZE
 }
 
-/// Why a data transfer message is refused, if it is.
-pub fn data_fault(bytes: &[u8]) -> Option<TakeFault>
-    ensures { result ≡ spec.data_fault (data_frame_of bytes.now) }
+/// Why a data transfer message is refused, if it is, while the gatherer stands so.
+pub fn data_fault(bytes: &[u8], gather: &Gather) -> Option<TakeFault>
+    ensures { result ≡ spec.data_fault gather.now.max gather.now.expected (data_frame_of bytes.now) }
 {
     match read(bytes) {
         Err(fault) => Some(TakeFault::Frame(fault)),
-        Ok(view) if view.payload.is_empty() || view.remaining == 0 => None,
-        Ok(view) => Some(TakeFault::Fragmented {
-            remaining: view.remaining,
-        }),
+        Ok(view) if view.payload.is_empty() => None,
+        Ok(view) => gather
+            .fault(view.payload, view.remaining)
+            .map(TakeFault::Gather),
     }
 }
 
@@ -141,12 +142,21 @@ pub fn asks(bytes: &[u8]) -> bool
     }
 }
 
-/// A copy of the payload of a data transfer message, where it has one.
-pub fn payload(alloc: Global, bytes: &[u8]) -> Result<Option<Message>, NoMemory>
-    ensures { IfOk result (λ m. m ≡ payload_of (data_frame_of bytes.now)) }
+/// Gathers the piece of a data transfer message that is not refused, where it has one, and gives the message that it
+/// ends. Only memory can lack, and then nothing has changed.
+pub fn gathered(bytes: &[u8], gather: &mut Gather) -> Result<Option<Message>, NoMemory>
+    requires unbroken { gather.old.broken ≡ None }
+    requires fits { spec.data_fault gather.old.max gather.old.expected (data_frame_of bytes.now) ≡ None }
+    ensures message { IfOk result (λ m. m ≡ message_in gather.old (data_frame_of bytes.now)) }
+    ensures added { OnOk result (gather.new ≡ gatherer_with gather.old (data_frame_of bytes.now)) }
+    ensures same { OnErr result (gather.new ≡ gather.old) }
 {
     match read(bytes) {
-        Ok(view) if !view.payload.is_empty() => Ok(Some(Message::copy_of(alloc, view.payload)?)),
+        Ok(view) if !view.payload.is_empty() => {
+            gather
+                .add(view.payload, view.remaining)
+                .map_err(|_| NoMemory)
+        }
         _ => Ok(None),
     }
 }

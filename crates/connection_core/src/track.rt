@@ -1,16 +1,20 @@
 //! What an end knows of its history without reading it again: its counts, and what it waits for.
 
-ghost use Rattle.std.specs.Prelude.{◌≡◌, ◌-◌, ◌<◌, ◌≤◌, true, false, ◌&&◌, nat_lt, nat_le, [], ◌∷◌, is_some, reverse, None, IfOk, OnOk};
+ghost use Rattle.std.specs.Prelude.{◌≡◌, ◌-◌, ◌<◌, ◌≤◌, true, false, ◌&&◌, ◌||◌, nat_lt, nat_le, [], ◌∷◌, is_some, reverse, Some, None, IfOk, OnOk};
 ghost use Rattle.smbd_base.specs.declared.event.Event.TheVariants as events;
 ghost use Rattle.smbd_base.specs.declared.next.Next.TheVariants as due;
 ghost use Rattle.smbd_base.specs.Counts as count;
 ghost use Rattle.smbd_base.specs.History as spec;
 ghost use Rattle.smbd_base.specs.Limits.{IsLawful};
+ghost use Rattle.fragmenter.specs.Cut.{next_place, piece_at};
+ghost use Rattle.connection_core.specs.Gatherer.{gatherer_of};
 ghost use Rattle.connection_core.specs.Queue.{IsQueue};
 ghost use Rattle.connection_core.specs.Standing.{standing_of};
 
 use crate::frames;
 use crate::history::History;
+use fragmenter::{Cutter, Piece};
+use reassembly::Gather;
 use smbd_base::{
     Agreed, EndId, EndLimits, Event, Frame, Message, Next, NoMemory, SubmitFault, TakeFault,
 };
@@ -18,6 +22,9 @@ use std::alloc::Global;
 use std::collections::VecDeque;
 use std::marker::Model;
 use transfer_msg::Header;
+
+/// The bytes that every end gathers of a message (the least MaxFragmentedSize, MS-SMBD 3.1.1.1).
+const GATHERED_AT_LEAST: u32 = 131_072;
 
 /// Whether an end goes on.
 #[derive(Clone, Copy, Debug, PartialEq, Eq)]
@@ -188,15 +195,35 @@ impl Track {
         if message.is_empty() {
             return Some(SubmitFault::Empty);
         }
-        if message.len() > frames::payload_size(&self.limits) as usize {
+        if message.len() > self.message_limit() as usize {
             return Some(SubmitFault::TooLong);
         }
         None
     }
 
-    /// Why a frame is refused, if it is.
-    #[tactic(auto, unfolding(smbd_base::specs::History::take_fault))]
-    pub fn take_fault(&self, frame: &Frame) -> Option<TakeFault>
+    /// The bytes of the longest message that may be submitted.
+    fn message_limit(&self) -> u32
+        ensures { result ≡ spec.message_limit self.now.side self.now.limits self.now.past }
+    {
+        if self.is_agreed() {
+            self.limits.fragmented_size()
+        } else {
+            GATHERED_AT_LEAST
+        }
+    }
+
+    /// The bytes of a message that one frame carries.
+    pub fn payload_size(&self) -> u32
+        ensures size { result ≡ spec.payload_size self.now.limits }
+        ensures least { 104 ≤ result }
+    {
+        frames::payload_size(&self.limits)
+    }
+
+    /// Why a frame is refused, if it is, by the gatherer of this past.
+    #[tactic(auto, unfolding(smbd_base::specs::History::take_fault, smbd_base::specs::History::fault_expecting))]
+    pub fn take_fault(&self, frame: &Frame, gather: &Gather) -> Option<TakeFault>
+        requires { gather.now ≡ gatherer_of self.now.side self.now.limits self.now.past }
         ensures { result ≡ spec.take_fault self.now.side self.now.limits self.now.past frame.now }
     {
         if self.is_out_of_turn() {
@@ -211,7 +238,7 @@ impl Track {
             });
         }
         if self.heard {
-            return frames::data_fault(frame.bytes());
+            return frames::data_fault(frame.bytes(), gather);
         }
         if frames::is_awaited(frame.bytes(), self.side, &self.limits) {
             None
@@ -221,7 +248,7 @@ impl Track {
     }
 
     /// The event that comes next, while these messages wait to be sent.
-    pub fn next(&self, alloc: Global, waiting: &VecDeque<Message>) -> Result<Next, NoMemory>
+    pub fn next(&self, alloc: Global, waiting: &VecDeque<Cutter>) -> Result<Next, NoMemory>
         requires queue { IsQueue self.now.limits self.now.past waiting.now.items }
         ensures { IfOk result (λ n. n ≡ spec.next_event self.now.side self.now.limits self.now.past) }
     {
@@ -272,7 +299,7 @@ impl Track {
     }
 
     /// Whether a data transfer message is due, while these messages wait to be sent.
-    fn is_sending(&self, waiting: &VecDeque<Message>) -> bool
+    fn is_sending(&self, waiting: &VecDeque<Cutter>) -> bool
         requires queue { IsQueue self.now.limits self.now.past waiting.now.items }
         ensures { result ≡ spec.is_sending self.now.side self.now.limits self.now.past }
     {
@@ -290,34 +317,37 @@ impl Track {
     }
 
     /// The data transfer message that is due, while these messages wait to be sent.
-    fn frame_due(&self, alloc: Global, waiting: &VecDeque<Message>) -> Result<Frame, NoMemory>
+    fn frame_due(&self, alloc: Global, waiting: &VecDeque<Cutter>) -> Result<Frame, NoMemory>
         requires queue { IsQueue self.now.limits self.now.past waiting.now.items }
         ensures { IfOk result (λ f. f ≡ spec.frame_due self.now.side self.now.limits self.now.past) }
     {
-        let Some(message) = waiting.front() else {
-            return frames::data_frame(alloc, &self.header(false, 0), &[]);
+        let Some(cutter) = waiting.front() else {
+            return frames::data_frame(alloc, &self.header(false, 0, 0), &[]);
         };
-        let header = self.header(self.asks_for_response(waiting.len()), message.len());
-        frames::data_frame(alloc, &header, message.bytes())
+        let Some(piece) = cutter.peek() else {
+            unreachable!()
+        };
+        let asks = self.asks_for_response(piece.remaining, waiting.len());
+        let header = self.header(asks, piece.remaining, piece.length);
+        frames::data_frame(alloc, &header, bytes_of(cutter, &piece))
     }
 
-    /// Whether the next frame asks for a response, where so many messages wait: a piece waits after it, and it
-    /// leaves one credit or none.
-    fn asks_for_response(&self, waiting: usize) -> bool
-        ensures { result ≡ (nat_lt 1 waiting && nat_le (count.credits_held self.now.side self.now.past) 2) }
+    /// Whether the next frame asks for a response, where so many bytes of its message come after it, and so many
+    /// messages wait: a piece waits after it, and it leaves one credit or none.
+    fn asks_for_response(&self, remaining: u32, waiting: usize) -> bool
+        ensures { result ≡ ((nat_lt 0 remaining || nat_lt 1 waiting) && nat_le (count.credits_held self.now.side self.now.past) 2) }
     {
-        waiting > 1 && self.held <= 2
+        (remaining > 0 || waiting > 1) && self.held <= 2
     }
 
-    /// The header of a data transfer message with the last piece of a message, of so many bytes. It grants all that
-    /// can be granted.
-    fn header(&self, response_requested: bool, length: usize) -> Header
-        requires { length ≤ spec.payload_size self.now.limits }
+    /// The header of a data transfer message with a piece of so many bytes, after which so many come. It grants all
+    /// that can be granted.
+    fn header(&self, response_requested: bool, remaining: u32, length: u32) -> Header
         ensures { result ≡ record {
           credits_requested = self.now.limits.credits;
           credits_granted = count.receives_grantable self.now.side self.now.past;
           response_requested = response_requested;
-          remaining = 0;
+          remaining = remaining;
           length = length;
         } }
     {
@@ -325,8 +355,8 @@ impl Track {
             credits_requested: self.limits.credits(),
             credits_granted: self.grantable,
             response_requested,
-            remaining: 0,
-            length: length as u32,
+            remaining,
+            length,
         }
     }
 
@@ -446,4 +476,13 @@ impl Track {
     {
         (self.heard && frames::asks(frame.bytes())) || self.response_owed
     }
+}
+
+/// The bytes of a piece that the cutter gives.
+fn bytes_of<'a>(cutter: &'a Cutter, piece: &Piece) -> &'a [u8]
+    requires { next_place cutter.now ≡ Some piece.now }
+    ensures { result.now ≡ (piece_at cutter.now.message piece.now).payload }
+{
+    let from = piece.from as usize;
+    &cutter.message().bytes()[from..from + piece.length as usize]
 }

@@ -1,15 +1,20 @@
-use Rattle.std.proofs.Common.{◌≡◌, ℕ, List, Option, sym, ap, subst, ◌∙◌}
-use Rattle.std.specs.Prelude.{IfOk}
+use Rattle.std.proofs.Common.{◌≡◌, sym, ap, subst, ◌∙◌}
+use Rattle.std.specs.Prelude.{OnOk}
 use Rattle.smbd_base.specs.Counts.{is_unheard}
-use Rattle.smbd_base.specs.DataFrame.{data_frame_of}
-use Rattle.connection_core.specs.Answered.{payload_of}
+use Rattle.reassembly.specs.Gathering.{Gathering}
 use Rattle.connection_core.specs.Tracked.{Tracked}
-use Rattle.connection_core.proofs.BroughtLemmas.{brought-payload}
+use Rattle.connection_core.proofs.GatherLemmas.{fits-at, added-at}
 use Rattle.connection_core.proofs.end.brought.Goals as goal
 
-pub returns-clause-message : goal.returns-clause-message
-returns-clause-message c =
+pub gathered-requires-clause-fits : goal.gathered-requires-clause-fits
+gathered-requires-clause-fits c =
     let t = c.args.track.now in
     let heard = sym (c.if-is_unheard.ensures ∙ ap (λ (x : Tracked). is_unheard x.past) c.reserve.ensures.same) in
-    let is = ap (λ (bytes : List ℕ). payload_of (data_frame_of bytes)) c.bytes.ensures ∙ sym (brought-payload t.side t.limits t.past c.args.frame.now c.requires heard) in
-    subst (λ (o : Option (List ℕ)). IfOk c.payload.result (λ m. m ≡ o)) is c.payload.ensures
+    fits-at t.side t.limits t.past c.args.frame.now c.bytes.result.now c.args.gather.now c.requires.begun c.bytes.ensures c.requires.fault heard
+
+pub returns-clause-added : goal.returns-clause-added
+returns-clause-added c =
+    let t = c.args.track.now in
+    let heard = sym (c.if-is_unheard.ensures ∙ ap (λ (x : Tracked). is_unheard x.past) c.reserve.ensures.same) in
+    let is = added-at t.side t.limits t.past c.args.frame.now c.bytes.result.now c.args.gather.now c.requires.begun c.bytes.ensures c.requires.fault heard in
+    subst (λ (g : Gathering). OnOk c.gathered.result (c.gathered.new.gather ≡ g)) is c.gathered.ensures.added
