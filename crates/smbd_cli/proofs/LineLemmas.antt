@@ -1,17 +1,11 @@
 -- The lines of a history.
-use Rattle.std.proofs.Common.{◌≡◌, ℕ, ◌+◌, ◌≤◌, ◌<◌, List, [], ◌∷◌, ◌++◌, length, take, get_or, refl, sym, ap, ◌∙◌, append_assoc, arith}
-use Rattle.std.specs.List.{flat_map}
+use Rattle.std.proofs.Common.{◌≡◌, ℕ, ◌+◌, ◌≤◌, List, [], ◌∷◌, ◌++◌, refl, sym, ap, ◌∙◌, append_assoc, arith}
 use Rattle.std.proofs.lemmas.List.{append-nil}
 use Rattle.smbd_base.specs.declared.end_id.EndId.{EndId}
 use Rattle.smbd_base.specs.declared.event.Event.{Event}
 use Rattle.smbd_base.specs.declared.event.Event.TheVariants.{Post, Submit, Emit, Take, Cut}
-use Rattle.smbd_cli.specs.Lines.{line_of, lines_of, lines_from, next_number, take_count}
+use Rattle.smbd_cli.specs.Lines.{line_of, lines_from, next_number, number_after}
 use Rattle.smbd_cli.specs.LogText.{text_of}
-
--- the number of the next frame that is taken after these events
-abbrev pub number_after : ℕ → List Event → ℕ
-number_after number [] = number
-number_after number (e ∷ events) = number_after (next_number number e) events
 
 pub number_after-snoc : (number : ℕ) (events : List Event) (e : Event) → number_after number (events ++ e ∷ []) ≡ next_number (number_after number events) e
 number_after-snoc number [] e = refl

@@ -1,44 +1,18 @@
 -- The log of two whole histories.
-use Rattle.std.proofs.Common.{◌≡◌, ◌⊎◌, inl, inr, ℕ, ◌+◌, Bool, true, false, List, [], ◌∷◌, ◌++◌, length, drop, reverse, refl, sym, ap, ◌∙◌, subst, append_assoc, arith}
-use Rattle.std.specs.List.{flat_map}
-use Rattle.std.proofs.lemmas.List.{append-nil}
+use Rattle.std.proofs.Common.{◌≡◌, ℕ, ◌+◌, List, [], ◌∷◌, ◌++◌, length, drop, reverse, refl, sym, ap, ◌∙◌, append_assoc}
+use Rattle.std.proofs.lemmas.List.{append-nil, drop_at, reverse-reverse, reverse-append, length-reverse}
 use Rattle.std.proofs.lemmas.Grind.{reverse_onto}
 use Rattle.smbd_base.specs.declared.end_id.EndId.{EndId}
 use Rattle.smbd_base.specs.declared.end_id.EndId.TheVariants.{Client, Server}
 use Rattle.smbd_base.specs.declared.event.Event.{Event}
 use Rattle.smbd_base.specs.declared.event.Event.TheVariants.{Post, Submit, Emit, Take, Cut}
-use Rattle.smbd_base.specs.declared.next.Next.TheVariants as due
-use Rattle.smbd_base.specs.Limits.{Limits}
-use Rattle.smbd_base.specs.History.{is_new, MayFollow, IsLegal}
-use Rattle.smbd_base.proofs.Inversion.{emits, posts}
-use Rattle.smbd_cli.specs.Lines.{line_of, lines_of, lines_from, take_count, next_number}
-use Rattle.smbd_cli.specs.LogText.{text_of, lines_text, Entry, entries_text, own_line, lines_at, lines_of_ends, IsLog}
-
--- ---- the first event
-
--- a past that goes back to the Post of the opening
-pub record StartsSo (limits : Limits) (past : List Event) : Type 0 where
-  pub later : List Event
-  pub is : past ≡ later ++ Post limits.credits ∷ []
-
-first_is : (side : EndId) (limits : Limits) (e : Event) → MayFollow side limits e [] → e ≡ Post limits.credits
-first_is side limits (Post n) follows =
-    elim (posts side limits [] n follows).1 as (λ _. Post n ≡ Post limits.credits) [
-      | inl opening ↦ ap (λ (k : ℕ). Post k) (sym opening.1)
-      | inr later ↦ absurd (let b : ⊥ = (let o = later.0 in cc) in b)
-    ]
-first_is side limits (Submit m) follows = absurd cc
-first_is side limits (Emit f) follows = let h = emits side limits [] f follows in absurd (let b : ⊥ = (let o = h.going.opened in cc) in b)
-first_is side limits (Take f) follows = absurd cc
-first_is side limits Cut follows = absurd (let b : ⊥ = (let o = follows.1 in cc) in b)
-
--- a legal history begins with the Post of the opening
-pub starts_so : (side : EndId) (limits : Limits) (past : List Event) → IsLegal side limits past → is_new past ≡ false → StartsSo limits past
-starts_so side limits [] legal opened = absurd cc
-starts_so side limits (e ∷ []) legal opened = record { later = []; is = ap (λ (x : Event). x ∷ []) (first_is side limits e legal.0) }
-starts_so side limits (e ∷ e' ∷ past) legal opened =
-    let h = starts_so side limits (e' ∷ past) legal.1 refl in
-    record { later = e ∷ h.later; is = ap (λ (p : List Event). e ∷ p) h.is }
+use mathlib.Core.List.{IsPrefix}
+use Rattle.smbd_cli.specs.Lines.{line_of, lines_of, lines_from, take_count, next_number, number_after}
+use Rattle.smbd_cli.specs.LogText.{text_of, Entry, entries_text, own_line, lines_at, lines_of_ends, IsLog, BeginsLog}
+use Rattle.smbd_cli.specs.declared.telling.Told.{Told}
+use Rattle.smbd_cli.specs.Progress.{all_told}
+use Rattle.smbd_cli.specs.Settled.{GoesOn}
+use Rattle.smbd_cli.specs.Telling.{new_text, told_after}
 
 -- ---- lines in both orders
 
@@ -59,30 +33,6 @@ lines_more side number lines past n l (e ∷ events) =
       next_is number past (Emit f) h = h
       next_is number past (Take f) h = ap (λ (k : ℕ). k + 1) h
       next_is number past Cut h = h
-
--- the events of a legal history in the order of time
-pub record Listed (limits : Limits) (past events : List Event) : Type 0 where
-  pub first : events ≡ Post limits.credits ∷ drop 1 events
-  pub lines : (side : EndId) → lines_of side past ≡ line_of side 1 (Post limits.credits) ∷ lines_from side 1 (drop 1 events)
-
-pub listed : (side : EndId) (limits : Limits) (past events : List Event) → IsLegal side limits past → is_new past ≡ false → reverse events ≡ past → Listed limits past events
-listed side limits past [] legal opened is = absurd (let e : is_new past ≡ true = ap is_new (sym is) in (let b : ⊥ = cc in b))
-listed side limits past (e ∷ events) legal opened is =
-    let h = starts_so side limits past legal opened in
-    let whole : reverse events ++ e ∷ [] ≡ h.later ++ Post limits.credits ∷ [] = sym (reverse_onto events e []) ∙ is ∙ h.is in
-    let same : e ≡ Post limits.credits = last_same (reverse events) h.later e (Post limits.credits) whole in
-    record {
-      first = ap (λ (x : Event). x ∷ events) same;
-      lines = λ side'. ap (lines_of side') (sym is ∙ reverse_onto events e [] ∙ ap (λ (x : Event). reverse events ++ x ∷ []) same)
-          ∙ lines_more side' 1 (line_of side' 1 (Post limits.credits) ∷ []) (Post limits.credits ∷ []) refl refl events;
-    } where
-      last_same : (xs ys : List Event) (x y : Event) → xs ++ x ∷ [] ≡ ys ++ y ∷ [] → x ≡ y
-      last_same [] [] x y h = cc
-      last_same [] (y' ∷ []) x y h = absurd cc
-      last_same [] (y' ∷ y'' ∷ ys) x y h = absurd cc
-      last_same (x' ∷ []) [] x y h = absurd cc
-      last_same (x' ∷ x'' ∷ xs) [] x y h = absurd cc
-      last_same (x' ∷ xs) (y' ∷ ys) x y h = last_same xs ys x y cc
 
 -- ---- the log
 
@@ -128,30 +78,98 @@ pub both_at : (side : EndId) (client server : List (List ℕ)) → lines_at side
 both_at Client client server = client_at client (entries_at Server server) ∙ ap (λ (ls : List (List ℕ)). client ++ ls) (client_of_server server) ∙ append-nil client
 both_at Server client server = server_at client (entries_at Server server) ∙ server_of_server server
 
--- the opening lines, and then the lines of all later events, are a log of both histories
-pub whole_log : (limits : Limits) (c s ce se : List Event) → Listed limits c ce → Listed limits s se
-    → IsLog c s (lines_text (Post limits.credits ∷ []) (Post limits.credits ∷ []) ++ lines_text (drop 1 ce) (drop 1 se))
-whole_log limits c s ce se lc ls =
-    let first = line_of Client 1 (Post limits.credits) in
-    let second = line_of Server 1 (Post limits.credits) in
-    let client = lines_from Client 1 (drop 1 ce) in
-    let server = lines_from Server 1 (drop 1 se) in
-    let new = text_of client ++ text_of server in
-    record {
-      entries = (record { side = Client; line = first }) ∷ (record { side = Server; line = second }) ∷ both_entries client server;
-      all = ap (λ (t : List ℕ). (t ++ text_of (second ∷ [])) ++ new) (append-nil first)
-          ∙ ap (λ (t : List ℕ). (first ++ t) ++ new) (append-nil second)
-          ∙ append_assoc first second new ∙ ap (λ (t : List ℕ). first ++ (second ++ t)) (sym (both_text client server));
+-- ---- the log goes on
+
+-- what a history has gained, in the order of time
+record HasGained (past now history : List Event) : Type 0 where
+  events : List Event
+  is : now ≡ reverse events ++ past
+  dropped : drop (length past) history ≡ events
+
+gained : (past now history : List Event) → GoesOn past now → reverse history ≡ now → HasGained past now history
+gained past now history more is = record {
+  events = reverse more.0;
+  is = more.1 ∙ ap (λ (new : List Event). new ++ past) (sym (reverse-reverse more.0));
+  dropped =
+      ap (λ (es : List Event). drop (length past) es)
+      (sym (reverse-reverse history) ∙ ap reverse (is ∙ more.1) ∙ reverse-append more.0 past)
+      ∙ drop_at (reverse past) (reverse more.0) (length past) (length-reverse past);
+}
+
+-- the lines that are told are those of the events that were gained
+lines_gained : (side : EndId) (past now history : List Event) → GoesOn past now → reverse history ≡ now
+    → lines_of side now ≡ lines_of side past ++ lines_from side (all_told past).next (drop (all_told past).events history)
+lines_gained side past now history more is =
+    let g = gained past now history more is in
+    ap (lines_of side) g.is ∙ lines_more side (take_count past + 1) (lines_of side past) past refl refl g.events
+    ∙ ap (λ (es : List Event). lines_of side past ++ lines_from side (take_count past + 1) es) (sym g.dropped)
+
+number_is : (past events : List Event) → number_after (take_count past + 1) events ≡ take_count (reverse events ++ past) + 1
+number_is past [] = refl
+number_is past (e ∷ events) =
+    ap (λ (n : ℕ). number_after n events) (next_is past e) ∙ number_is (e ∷ past) events
+    ∙ ap (λ (p : List Event). take_count p + 1) (sym (ap (λ (p : List Event). p ++ past) (reverse_onto events e []) ∙ append_assoc (reverse events) (e ∷ []) past)) where
+      next_is : (past : List Event) (e : Event) → next_number (take_count past + 1) e ≡ take_count (e ∷ past) + 1
+      next_is past (Post n) = refl
+      next_is past (Submit m) = refl
+      next_is past (Emit f) = refl
+      next_is past (Take f) = refl
+      next_is past Cut = refl
+
+-- once they are told, all is
+pub told_all : (past now history : List Event) (told : Told) → told ≡ all_told past → GoesOn past now → reverse history ≡ now → told_after told history ≡ all_told now
+told_all past now history told is more h =
+    let g = gained past now history more h in
+    let long : length history ≡ length now = sym (length-reverse history) ∙ ap length h in
+    let next : number_after (take_count past + 1) (drop (length past) history) ≡ take_count now + 1 =
+    ap (λ (es : List Event). number_after (take_count past + 1) es) g.dropped ∙ number_is past g.events ∙ ap (λ (p : List Event). take_count p + 1) (sym g.is) in
+    rw is (rw (long, next) refl)
+
+entries_text-append : (xs ys : List Entry) → entries_text (xs ++ ys) ≡ entries_text xs ++ entries_text ys
+entries_text-append [] ys = refl
+entries_text-append (x ∷ xs) ys = ap (λ (t : List ℕ). x.line ++ t) (entries_text-append xs ys) ∙ sym (append_assoc x.line (entries_text xs) (entries_text ys))
+
+lines_at-append : (side : EndId) (xs ys : List Entry) → lines_at side (xs ++ ys) ≡ lines_at side xs ++ lines_at side ys
+lines_at-append side [] ys = refl
+lines_at-append side (x ∷ xs) ys =
+    ap (λ (ls : List (List ℕ)). own_line side x.side x.line ++ ls) (lines_at-append side xs ys)
+    ∙ sym (append_assoc (own_line side x.side x.line) (lines_at side xs) (lines_at side ys))
+
+-- a log of both histories, and the lines of what both have gained
+pub log_more : (c s c_now s_now ce se : List Event) (text : List ℕ) (ct st : Told) → IsLog c s text → ct ≡ all_told c → st ≡ all_told s
+    → GoesOn c c_now → GoesOn s s_now → reverse ce ≡ c_now → reverse se ≡ s_now → IsLog c_now s_now (text ++ new_text ct st ce se)
+log_more c s c_now s_now ce se text ct st log ct_is st_is c_more s_more c_is s_is =
+    let client = lines_from Client (all_told c).next (drop (all_told c).events ce) in
+    let server = lines_from Server (all_told s).next (drop (all_told s).events se) in
+    rw (ct_is, st_is) (record {
+      entries = log.entries ++ both_entries client server;
+      all = ap (λ (t : List ℕ). t ++ (text_of client ++ text_of server)) log.all
+          ∙ ap (λ (t : List ℕ). entries_text log.entries ++ t) (sym (both_text client server))
+          ∙ sym (entries_text-append log.entries (both_entries client server));
       each = each;
-      first = first;
-      second = second;
-      later = both_entries client server;
-      opening = refl;
-    } where
+      first = log.first;
+      second = log.second;
+      later = log.later ++ both_entries client server;
+      opening = ap (λ (es : List Entry). es ++ both_entries client server) log.opening;
+    }) where
       each : (side : EndId)
-          → lines_at side ((record { side = Client; line = line_of Client 1 (Post limits.credits) }) ∷ (record { side = Server; line = line_of Server 1 (Post limits.credits) })
-          ∷ both_entries (lines_from Client 1 (drop 1 ce)) (lines_from Server 1 (drop 1 se))) ≡ lines_of_ends c s side
+          → lines_at side (log.entries ++ both_entries (lines_from Client (all_told c).next (drop (all_told c).events ce)) (lines_from Server (all_told s).next (drop (all_told s).events se)))
+          ≡ lines_of_ends c_now s_now side
       each Client =
-          ap (λ (x : List (List ℕ)). line_of Client 1 (Post limits.credits) ∷ x) (both_at Client (lines_from Client 1 (drop 1 ce)) (lines_from Server 1 (drop 1 se))) ∙ sym (lc.lines Client)
+          let client = lines_from Client (all_told c).next (drop (all_told c).events ce) in
+          let server = lines_from Server (all_told s).next (drop (all_told s).events se) in
+          lines_at-append Client log.entries (both_entries client server) ∙ ap (λ (ls : List (List ℕ)). ls ++ lines_at Client (both_entries client server)) (log.each Client)
+          ∙ ap (λ (ls : List (List ℕ)). lines_of Client c ++ ls) (both_at Client client server) ∙ sym (lines_gained Client c c_now ce c_more c_is)
       each Server =
-          ap (λ (x : List (List ℕ)). line_of Server 1 (Post limits.credits) ∷ x) (both_at Server (lines_from Client 1 (drop 1 ce)) (lines_from Server 1 (drop 1 se))) ∙ sym (ls.lines Server)
+          let client = lines_from Client (all_told c).next (drop (all_told c).events ce) in
+          let server = lines_from Server (all_told s).next (drop (all_told s).events se) in
+          lines_at-append Server log.entries (both_entries client server) ∙ ap (λ (ls : List (List ℕ)). ls ++ lines_at Server (both_entries client server)) (log.each Server)
+          ∙ ap (λ (ls : List (List ℕ)). lines_of Server s ++ ls) (both_at Server client server) ∙ sym (lines_gained Server s s_now se s_more s_is)
+
+-- and a front of those lines
+pub log_cut : (c s : List Event) (text new front : List ℕ) → IsLog c s (text ++ new) → IsPrefix front new → BeginsLog c s (text ++ front)
+log_cut c s text new front log begins = record {
+  whole = text ++ new;
+  log = log;
+  begins = (begins.0, append_assoc text front begins.0 ∙ ap (λ (t : List ℕ). text ++ t) begins.1);
+}

@@ -1,13 +1,12 @@
 -- How two ends of the usual limits open.
-use Rattle.std.proofs.Common.{◌≡◌, ℕ, Bool, true, List, [], ◌∷◌, Option, None, refl, sym, ap, ◌∙◌, subst}
-use Rattle.smbd_base.specs.declared.end_id.EndId.{EndId}
+use Rattle.std.proofs.Common.{◌≡◌, ℕ, true, List, [], ◌∷◌, Option, refl, sym, ap, ◌∙◌, subst}
 use Rattle.smbd_base.specs.declared.end_id.EndId.TheVariants.{Client, Server}
 use Rattle.smbd_base.specs.declared.event.Event.{Event}
-use Rattle.smbd_base.specs.declared.event.Event.TheVariants.{Post, Submit, Emit, Take}
+use Rattle.smbd_base.specs.declared.event.Event.TheVariants.{Post, Emit, Take}
 use Rattle.smbd_base.specs.declared.next.Next.TheVariants as due
 use Rattle.smbd_base.specs.Limits.{usual_limits}
 use Rattle.smbd_base.specs.Negotiation.{request_text, response_text}
-use Rattle.smbd_base.specs.History.{next_event, take_fault}
+use Rattle.smbd_base.specs.History.{next_event, take_fault, fault_expecting}
 use Rattle.connection_core.specs.Shown.{Shown}
 use Rattle.smbd_cli.specs.Carried.{is_emit, opened, agreed_client, agreed_server, with_past, CanTake, HasCarried}
 
@@ -26,15 +25,15 @@ unfolding next_event
 emits_request = refl
 
 emits_response : next_event Server usual_limits asked_server ≡ due.Emit (response_text usual_limits)
-unfolding next_event take_fault
+unfolding next_event take_fault fault_expecting
 emits_response = refl
 
 takes_request : CanTake (opened Server) (request_text usual_limits)
-unfolding next_event take_fault
+unfolding next_event take_fault fault_expecting
 takes_request = record { ready = refl; fault = refl; posts = refl }
 
 takes_response : CanTake (with_past (opened Client) asked_client) (response_text usual_limits)
-unfolding next_event take_fault
+unfolding next_event take_fault fault_expecting
 takes_response = record { ready = refl; fault = refl; posts = refl }
 
 -- ---- the request

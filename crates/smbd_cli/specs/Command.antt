@@ -1,5 +1,5 @@
 -- The commands that the program's words name (this project's own).
-use Rattle.std.specs.Prelude.{◌≡◌, ℕ, Option, Some, None, List, [], ◌∷◌, codes, if◌then◌else◌, nat_eq, ◌&&◌, Bool, false}
+use Rattle.std.specs.Prelude.{ℕ, Option, Some, None, List, [], ◌∷◌, codes, if◌then◌else◌, nat_eq}
 use lib.Pointwise.{pointwise}
 use Rattle.smbd_base.specs.Limits.{usual_limits}
 use Rattle.smbd_cli.specs.declared.options.CopyCommand.{CopyCommand}

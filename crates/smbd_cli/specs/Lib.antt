@@ -3,7 +3,9 @@ pub mod Command
 pub mod FileMessages
 pub mod Lines
 pub mod LogText
+pub mod Progress
 pub mod Promise
 pub mod Put
 pub mod PutRun
 pub mod Settled
+pub mod Telling

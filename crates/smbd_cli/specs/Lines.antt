@@ -46,3 +46,8 @@ next_number number Cut = number
 abbrev pub lines_from : EndId → ℕ → List Event → List (List ℕ)
 lines_from side number [] = []
 lines_from side number (e ∷ events) = line_of side number e ∷ lines_from side (next_number number e) events
+
+-- the number of the next frame that is taken after these events
+abbrev pub number_after : ℕ → List Event → ℕ
+number_after number [] = number
+number_after number (e ∷ events) = number_after (next_number number e) events

@@ -1,7 +1,8 @@
 -- The promise of a copy (this project's own). A past is a list of events, the newest one first.
-use Rattle.std.specs.Prelude.{◌≡◌, ◌⊎◌, ℕ, ◌*◌, ◌/◌, ◌<◌, ◌≤◌, ◌++◌, Bool, true, Option, Some, List, [], length, take, map, if◌then◌else◌}
+use Rattle.std.specs.Prelude.{◌≡◌, ℕ, ◌*◌, ◌/◌, ◌<◌, ◌≤◌, Bool, true, Option, Some, List, length, take, map, if◌then◌else◌}
 use Rattle.std.specs.Io.KnownBytes.{Appends, Consumes, IsAtEnd}
 use mathlib.Core.List.{IsPrefix}
+use Rattle.std.specs.List.{flat_map}
 use Rattle.smbd_base.specs.declared.end_id.EndId.TheVariants.{Client, Server}
 use Rattle.smbd_base.specs.declared.event.Event.{Event}
 use Rattle.smbd_base.specs.Limits.{usual_limits}
@@ -12,7 +13,7 @@ use Rattle.smbd_outside.specs.declared.status.Status.{Status}
 use Rattle.smbd_outside.specs.declared.status.Status.TheVariants.{Done, Usage, ReadFault, WriteFault, LogFault, TooLong, Cut, BadInput, NoMemory}
 use Rattle.smbd_outside.specs.Causes.{Rose}
 use Rattle.smbd_cli.specs.LogText.{IsLog, BeginsLog}
-use Rattle.smbd_cli.specs.PutRun.{groups, groups_count, write_of, put_requests, put_replies}
+use Rattle.smbd_cli.specs.PutRun.{Group, groups, groups_count, write_of, put_requests, put_replies}
 
 -- ---- what a copy was handed
 
@@ -72,7 +73,11 @@ pub record IsSound (c : Course) : Type 0 where
 
 -- no more was read than may be copied
 abbrev pub IsShort : Course → Type 0
-IsShort c = length c.bytes ≤ 1316
+IsShort c = length c.bytes ≤ 16777216
+
+-- the sink got the bytes of whole groups, the last one of the copy included where it is shorter
+abbrev pub StoresGroups : Course → Type 0
+StoresGroups c = (count : ℕ) × (c.stored ≡ flat_map (λ (g : Group). g.bytes) (take count (groups (usable c.ended c.bytes))))
 
 -- the log tells both histories, whole
 abbrev pub IsLogged : Course → Type 0
@@ -93,16 +98,16 @@ pub record IsWhole (c : Course) : Type 0 where
 -- when each status comes, and what it leaves
 abbrev pub Ends : Status → Stream → Stream → Stream → Course → Type 0
 Ends Done source sink log c = IsWhole c × IsAtEnd source.now
-Ends ReadFault source sink log c = IsLogged c × IsShort c × (c.stored ≡ []) × Rose source.faults_before source.faults
+Ends ReadFault source sink log c = IsLogged c × IsShort c × StoresGroups c × Rose source.faults_before source.faults
 Ends WriteFault source sink log c = IsLogged c × IsShort c × Rose sink.faults_before sink.faults
-Ends LogFault source sink log c = IsLogCut c × IsShort c × (c.stored ≡ []) × Rose log.faults_before log.faults
-Ends TooLong source sink log c = IsLogged c × (1316 < length c.bytes) × (c.stored ≡ [])
-Ends NoMemory source sink log c = IsLogCut c × IsShort c × (c.stored ≡ [])
+Ends LogFault source sink log c = IsLogCut c × IsShort c × StoresGroups c × Rose log.faults_before log.faults
+Ends TooLong source sink log c = IsLogged c × (16777216 < length c.bytes) × StoresGroups c
+Ends NoMemory source sink log c = IsLogCut c × IsShort c × StoresGroups c
 Ends Usage source sink log c = ⊥
 Ends Cut source sink log c = ⊥
 Ends (BadInput line) source sink log c = ⊥
 
--- The promise: the log tells the actual histories of both ends; each end delivers a front of what its peer submitted;
+-- The promise: the log tells histories of both ends that fit together; each end delivers a front of what its peer submitted;
 -- each status has its cause; and with Done the sink got exactly what the source had.
 pub record KeepsPromise (status : Status) (source sink log : Stream) : Type 0 where
   pub course : Course
@@ -119,7 +124,7 @@ IsSilent s = Rose s.faults_before s.faults → ⊥
 -- neither source, sink nor log fails, and the source tells its bytes, of which there are no more than may be copied
 pub record IsFair (source sink log : Stream) (bytes : List ℕ) : Type 0 where
   pub told : source.before ≡ Some bytes
-  pub short : length bytes ≤ 1316
+  pub short : length bytes ≤ 16777216
   pub reads : IsSilent source
   pub writes : IsSilent sink
   pub logs : IsSilent log

@@ -1,5 +1,5 @@
 -- The requests of a put and their replies (this project's own).
-use Rattle.std.specs.Prelude.{ℕ, zero, suc, ◌+◌, ◌-◌, ◌*◌, ◌/◌, Bool, true, false, List, [], ◌∷◌, ◌++◌, length, take, drop, map}
+use Rattle.std.specs.Prelude.{ℕ, zero, suc, ◌+◌, ◌/◌, Bool, true, false, List, [], ◌∷◌, ◌++◌, length, take, drop, map}
 use Rattle.smbd_cli.specs.FileMessages.{write_request, end_request, write_reply, end_reply}
 
 -- a part of the bytes that one request carries: its number, from 1, and how many bytes stand before it

@@ -1,28 +1,30 @@
 //! A copy from a source to a sink, which is told to a log.
 
-ghost use Rattle.std.specs.Prelude.{◌≡◌, ◌≤◌, ◌⊎◌, ℕ, List, Some, drop, string_bytes, IfOk, IfErr, OnOk, OnErr};
-ghost use Rattle.std.specs.Io.KnownBytes.{Appends};
+ghost use Rattle.std.specs.Prelude.{◌≡◌, ◌+◌, ◌%◌, ◌≤◌, ◌⊎◌, ℕ, true, false, List, [], Some, length, vec_capacity, IfOk, IfErr, OnOk};
+ghost use Rattle.std.specs.Io.KnownBytes.{Consumes, IsAtEnd};
 ghost use Rattle.smbd_base.specs.declared.end_id.EndId.TheVariants as side;
-ghost use Rattle.smbd_outside.specs.Causes.{Rose};
-ghost use Rattle.smbd_outside.specs.Streams.{AppendsFront};
 ghost use Rattle.smbd_cli.specs.Carried.{opened};
 ghost use Rattle.smbd_cli.specs.Command.{plain_put};
-ghost use Rattle.smbd_cli.specs.LogText.{lines_text};
-ghost use Rattle.smbd_cli.specs.Promise.{stream_of, KeepsPromise, IsFair, IsCopied};
+ghost use Rattle.smbd_cli.specs.Progress.{moved, IsBeforeTurn, IsAfterTurn, StopsReading};
+ghost use Rattle.smbd_cli.specs.Promise.{stream_of, Stream, KeepsPromise, IsFair, IsCopied};
+ghost use Rattle.smbd_cli.specs.Put.{ArePair, HasCaughtUp};
 
-use crate::lines::add_lines;
+use crate::exchange::negotiate;
 use crate::options::CopyCommand;
-use crate::put::{put, stored};
+use crate::put::{GROUP, WINDOW, put_groups, store};
+use crate::telling::{Told, tell};
 use connection_core::End;
-use smbd_base::{EndId, Event, NoMemory};
-use smbd_outside::{Failed, Filled, Sink, Source, Status, fill, write_whole};
+use smbd_outside::{Failed, Filled, Sink, Source, Status, fill};
 use std::alloc::Global;
 
-/// One byte more than a copy may read: 1,316 bytes fit one request of one fragment.
-const TOO_LONG: usize = 1_317;
+/// The most bytes that a copy reads.
+const MOST: usize = 16_777_216;
+
+/// The bytes of one turn: the groups of as many WRITEs as may be unanswered.
+const TURN: usize = WINDOW * GROUP;
 
 /// Copies the source to the sink, and tells the log what both ends did: a put without registered pages, of at most
-/// 1,316 bytes. The lines stand in the log before the sink gets its bytes.
+/// 16,777,216 bytes. At each turn the lines stand in the log before the sink gets its bytes.
 pub fn run_copy<S: Source, K: Sink, L: Sink>(
     alloc: Global,
     command: &CopyCommand,
@@ -56,7 +58,8 @@ pub fn run_copy<S: Source, K: Sink, L: Sink>(
     copy_between(alloc, &mut client, &mut server, source, sink, log)
 }
 
-/// Copies the source to the sink between two ends that were just opened.
+/// Copies the source to the sink between two ends that were just opened. The first groups are read before anything is
+/// sent.
 fn copy_between<S: Source, K: Sink, L: Sink>(
     alloc: Global,
     client: &mut End,
@@ -70,70 +73,129 @@ fn copy_between<S: Source, K: Sink, L: Sink>(
     ensures promise { KeepsPromise result (stream_of S.left S.faults source.old source.new)
         (stream_of K.written K.faults sink.old sink.new) (stream_of L.written L.faults log.old log.new) }
 {
-    match log_events(alloc, log, client.history(), server.history()) {
+    let mut client_told = Told::nothing();
+    let mut server_told = Told::nothing();
+    match tell(
+        alloc,
+        log,
+        &mut client_told,
+        &mut server_told,
+        client.history(),
+        server.history(),
+    ) {
         Ok(()) => {}
         Err(status) => return status,
     }
-    let Ok(mut bytes) = Vec::with_capacity(alloc, TOO_LONG) else {
+    let Ok(mut bytes) = Vec::with_capacity(alloc, TURN) else {
         return Status::NoMemory;
     };
-    match fill(source, &mut bytes, TOO_LONG) {
-        Ok(Filled::End) => {}
-        Ok(Filled::Full) => return Status::TooLong,
-        Err(Failed) => return Status::ReadFault,
-    }
-    let Ok(came) = put(alloc, client, server, &bytes) else {
-        return Status::NoMemory;
-    };
-    let client_events = later_events(client.history());
-    let server_events = later_events(server.history());
-    match log_events(alloc, log, client_events, server_events) {
-        Ok(()) => {}
+    let mut ended = match read_turn(source, &mut bytes, 0) {
+        Ok(ended) => ended,
         Err(status) => return status,
-    }
-    match write_whole(sink, stored(&came)) {
-        Ok(()) => Status::Done,
-        Err(Failed) => Status::WriteFault,
+    };
+    let Ok(()) = negotiate(client, server) else {
+        return Status::NoMemory;
+    };
+    let mut before = 0;
+    loop {
+        match turn(
+            alloc,
+            client,
+            server,
+            sink,
+            log,
+            &mut client_told,
+            &mut server_told,
+            before,
+            &bytes,
+            ended,
+        ) {
+            Ok(()) => {}
+            Err(status) => return status,
+        }
+        if ended {
+            return Status::Done;
+        }
+        before += bytes.len() as u64;
+        bytes.clear();
+        match read_turn(source, &mut bytes, before) {
+            Ok(end) => ended = end,
+            Err(status) => return status,
+        }
     }
 }
 
-/// The events after the first, which is the opening post.
-fn later_events(events: &[Event]) -> &[Event]
-    ensures { result.now ≡ drop 1 events.now }
+/// Reads the bytes of the next turn into an empty buffer, so many having been read before. Answers whether they are the
+/// last.
+fn read_turn<S: Source>(source: &mut S, bytes: &mut Vec<u8>, before: u64) -> Result<bool, Status>
+    requires room { 262144 ≤ vec_capacity bytes.old }
+    requires empty { bytes.old.items ≡ [] }
+    requires before { before ≤ 16777216 }
+    requires turns { before % 262144 ≡ 0 }
+    ensures read { Consumes (S.left source.old) (S.left source.new) bytes.new.items }
+    ensures short { OnOk result (before + length bytes.new.items ≤ 16777216) }
+    ensures whole { IfOk result (λ last. last ≡ false → length bytes.new.items ≡ 262144) }
+    ensures last { IfOk result (λ last. last ≡ true → IsAtEnd (S.left source.new)) }
+    ensures later { S.faults source.old ≤ S.faults source.new }
+    ensures stops { IfErr result (λ status. StopsReading status before (length bytes.new.items) (S.faults source.old) (S.faults source.new)) }
+    ensures room { 262144 ≤ vec_capacity bytes.new }
 {
-    match events {
-        [] => &[],
-        [_, later @ ..] => later,
+    let most = TURN.min(MOST + 1 - before as usize);
+    match fill(source, bytes, most) {
+        Ok(Filled::End) => Ok(true),
+        Ok(Filled::Full) if before as usize + most > MOST => Err(Status::TooLong),
+        Ok(Filled::Full) => Ok(false),
+        Err(Failed) => Err(Status::ReadFault),
     }
 }
 
-/// Writes the lines of these events to the log in one piece, the client's first. No frame was taken before them.
-fn log_events<L: Sink>(
+/// One turn of a copy: the bytes go from the client to the server, then the log is told, and then the sink gets them.
+fn turn<K: Sink, L: Sink>(
     alloc: Global,
+    client: &mut End,
+    server: &mut End,
+    sink: &mut K,
     log: &mut L,
-    client: &[Event],
-    server: &[Event],
+    client_told: &mut Told,
+    server_told: &mut Told,
+    before: u64,
+    bytes: &[u8],
+    ended: bool,
 ) -> Result<(), Status>
-    ensures logged { OnOk result (Appends (L.written log.old) (L.written log.new) (lines_text client.now server.now)) }
-    ensures front { OnErr result (AppendsFront (L.written log.old) (L.written log.new) (lines_text client.now server.now)) }
-    ensures later { L.faults log.old ≤ L.faults log.new }
-    ensures cause { IfErr result (λ status. ((status ≡ Status.LogFault) × Rose (L.faults log.old) (L.faults log.new)) ⊎ (status ≡ Status.NoMemory)) }
+    requires pair { ArePair client.old server.old }
+    requires caught_up { HasCaughtUp client.old server.old }
+    requires groups { before % 65536 ≡ 0 }
+    requires short { before + length bytes.now ≤ 16777216 }
+    requires client { (client_told.old.events ≤ length client.old.past) × (client_told.old.next ≤ client_told.old.events + 1) }
+    requires server { (server_told.old.events ≤ length server.old.past) × (server_told.old.next ≤ server_told.old.events + 1) }
+
+    // However far the copy has come: the bytes go over, are told and are stored, or the promise of the whole copy is kept.
+    ensures goes_on { (from to told : Stream) → to.now ≡ K.written sink.old → to.faults ≡ K.faults sink.old
+        → told.now ≡ L.written log.old → told.faults ≡ L.faults log.old
+        → IsBeforeTurn from to told client.old server.old client_told.old server_told.old before bytes.now ended
+        → OnOk result (IsAfterTurn from (moved to (K.written sink.new) (K.faults sink.new)) (moved told (L.written log.new) (L.faults log.new))
+        client.new server.new client_told.new server_told.new ended (before + length bytes.now)) }
+    ensures stops { (from to told : Stream) → to.now ≡ K.written sink.old → to.faults ≡ K.faults sink.old
+        → told.now ≡ L.written log.old → told.faults ≡ L.faults log.old
+        → IsBeforeTurn from to told client.old server.old client_told.old server_told.old before bytes.now ended
+        → IfErr result (λ status. KeepsPromise status from (moved to (K.written sink.new) (K.faults sink.new)) (moved told (L.written log.new) (L.faults log.new))) }
 {
-    let Ok(text) = text_of_events(alloc, client, server) else {
+    let Ok(came) = put_groups(alloc, client, server, before, bytes, ended) else {
         return Err(Status::NoMemory);
     };
-    match write_whole(log, text.as_bytes()) {
-        Ok(()) => Ok(()),
-        Err(Failed) => Err(Status::LogFault),
+    match tell(
+        alloc,
+        log,
+        client_told,
+        server_told,
+        client.history(),
+        server.history(),
+    ) {
+        Ok(()) => {}
+        Err(status) => return Err(status),
     }
-}
-
-/// The lines of these events, the client's first.
-fn text_of_events(alloc: Global, client: &[Event], server: &[Event]) -> Result<String, NoMemory>
-    ensures { IfOk result (λ text. string_bytes text ≡ lines_text client.now server.now) }
-{
-    let mut text = String::new(alloc);
-    add_lines(alloc, &mut text, EndId::Client, client)?;
-    add_lines(alloc, &mut text, EndId::Server, server)?;
-    Ok(text)
+    match store(sink, &came) {
+        Ok(()) => Ok(()),
+        Err(Failed) => Err(Status::WriteFault),
+    }
 }

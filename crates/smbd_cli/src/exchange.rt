@@ -9,7 +9,7 @@ ghost use Rattle.smbd_base.specs.declared.end_id.EndId.TheVariants as side;
 ghost use Rattle.smbd_base.specs.Counts.{peer_of};
 ghost use Rattle.smbd_base.specs.Limits.{usual_limits};
 ghost use Rattle.smbd_cli.specs.Carried.{is_emit, opened, agreed_client, agreed_server, with_past, CanTake, HasCarried};
-ghost use Rattle.smbd_cli.specs.Settled.{CanExchange, FitsOne, HasExchanged};
+ghost use Rattle.smbd_cli.specs.Settled.{CanSend, HasSentOne};
 
 use connection_core::{End, Next, SubmitFault, SubmitRefused, TakeFault, TakeRefused};
 use smbd_base::{Frame, Message, NoMemory};
@@ -77,7 +77,7 @@ fn carry(from: &mut End, to: &mut End) -> Result<Option<Message>, NoMemory>
 }
 
 /// Submits a message that is not refused.
-fn submit(end: &mut End, message: Message) -> Result<(), NoMemory>
+pub fn submit(end: &mut End, message: Message) -> Result<(), NoMemory>
     requires { spec.submit_fault end.old.side end.old.limits end.old.past message ≡ None }
     ensures { OnOk result (end.new ≡ record end.old { past = events.Submit message ∷ end.old.past; prepared = None }) }
 {
@@ -105,21 +105,19 @@ pub fn negotiate(client: &mut End, server: &mut End) -> Result<(), NoMemory>
     Ok(())
 }
 
-/// Sends a message of one fragment from one end to the other, and gives it as it was delivered.
-pub fn exchange(from: &mut End, to: &mut End, message: Message) -> Result<Message, NoMemory>
+/// Sends the oldest message that waits, piece by piece, and gives it as it was delivered.
+pub fn send(from: &mut End, to: &mut End) -> Result<Message, NoMemory>
     requires from_limits { from.old.limits ≡ usual_limits }
     requires to_limits { to.old.limits ≡ usual_limits }
-    requires sides { to.old.side ≡ peer_of from.old.side }
-    requires can { CanExchange from.old.side from.old.past to.old.past }
-    requires fits { FitsOne message }
+    requires sides { peer_of to.old.side ≡ from.old.side }
+    requires can { CanSend from.old.side to.old.side from.old.past to.old.past }
     ensures from { OnOk result (from.new ≡ with_past from.old from.new.past) }
     ensures to { OnOk result (to.new ≡ with_past to.old to.new.past) }
-    ensures ends { OnOk result (HasExchanged from.old.side from.old.past to.old.past from.new.past to.new.past message) }
-    ensures delivered { IfOk result (λ m. m ≡ message) }
+    ensures sent { IfOk result (λ m. HasSentOne from.old.side to.old.side from.old.past to.old.past from.new.past to.new.past m) }
 {
-    submit(from, message)?;
-    match carry(from, to)? {
-        Some(delivered) => Ok(delivered),
-        None => unreachable!(),
+    loop {
+        if let Some(message) = carry(from, to)? {
+            return Ok(message);
+        }
     }
 }

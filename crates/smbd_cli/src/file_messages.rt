@@ -28,7 +28,7 @@ pub fn write_request(alloc: Global, id: u32, offset: u64, bytes: &[u8]) -> Resul
     let mut text = Vec::with_capacity(alloc, REQUEST_HEADER + bytes.len())?;
     text.extend_from_slice(&request_header(WRITE, id, offset, bytes.len() as u32))?;
     text.extend_from_slice(bytes)?;
-    Ok(Message::of_bytes(text))
+    Message::of_bytes(text)
 }
 
 /// END: so many bytes of the copy stand before it, and no more come.

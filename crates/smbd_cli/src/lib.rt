@@ -8,6 +8,7 @@ mod lines;
 mod options;
 mod program;
 mod put;
+mod telling;
 mod words;
 
 pub use copy::run_copy;

@@ -1,6 +1,6 @@
 //! The lines of a log.
 
-ghost use Rattle.std.specs.Prelude.{◌≡◌, ◌++◌, ◌+◌, ◌<◌, ◌^◌, string_bytes, OnOk};
+ghost use Rattle.std.specs.Prelude.{◌≡◌, ◌++◌, ◌+◌, ◌<◌, ◌^◌, length, string_bytes, IfOk, OnOk};
 ghost use Rattle.smbd_cli.specs.Lines as spec;
 ghost use Rattle.smbd_cli.specs.LogText.{text_of};
 
@@ -40,21 +40,24 @@ fn add_line(
     Ok(())
 }
 
-/// Adds the lines of events, before which no frame was taken.
+/// Adds the lines of events; the first frame that is taken has number `first`. Gives the number of the next one.
 pub fn add_lines(
     alloc: Global,
     text: &mut String,
     side: EndId,
+    first: u64,
     events: &[Event],
-) -> Result<(), NoMemory>
-    ensures { OnOk result (string_bytes text.new ≡ string_bytes text.old ++ text_of (spec.lines_from side 1 events.now)) }
+) -> Result<u64, NoMemory>
+    requires { first + length events.now < 2 ^ 64 }
+    ensures lines { OnOk result (string_bytes text.new ≡ string_bytes text.old ++ text_of (spec.lines_from side first events.now)) }
+    ensures next { IfOk result (λ next. next ≡ spec.number_after first events.now) }
 {
-    let mut number = 1;
+    let mut number = first;
     for event in events {
         add_line(alloc, text, side, number, event)?;
         number = next_number(number, event);
     }
-    Ok(())
+    Ok(number)
 }
 
 /// The number of the next frame that is taken, after this event.

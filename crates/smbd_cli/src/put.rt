@@ -1,75 +1,135 @@
 //! A put between two ends: the client sends the requests, and the server replies to each.
 
-ghost use Rattle.std.specs.Prelude.{◌≡◌, ◌++◌, ◌∷◌, ◌≤◌, [], length, IfOk, IfSome, OnOk};
-ghost use Rattle.smbd_base.specs.declared.end_id.EndId.TheVariants as side;
+ghost use Rattle.std.specs.Prelude.{◌≡◌, ◌++◌, ◌+◌, ◌/◌, ◌%◌, ◌≤◌, false, ℕ, List, length, IfOk, OnOk, OnErr};
+ghost use Rattle.std.specs.Io.KnownBytes.{Appends};
+ghost use Rattle.smbd_base.specs.declared.end_id.EndId.TheVariants.{Server};
+ghost use Rattle.smbd_base.specs.Limits.{usual_limits};
 ghost use Rattle.smbd_base.specs.History.{messages_submitted};
-ghost use Rattle.smbd_cli.specs.Carried.{opened};
-ghost use Rattle.smbd_cli.specs.FileMessages.{reply_for};
-ghost use Rattle.smbd_cli.specs.Put.{ArePair, HasPut, HasCalled, stored_by};
-ghost use Rattle.smbd_cli.specs.Settled.{FitsOne};
+ghost use Rattle.smbd_base.specs.Delivery.{messages_delivered};
+ghost use Rattle.smbd_outside.specs.Causes.{HasCause};
+ghost use Rattle.smbd_outside.specs.Streams.{AppendsFront};
+ghost use Rattle.smbd_cli.specs.Settled.{IsSettled, GoesOn};
+ghost use Rattle.smbd_cli.specs.Put.{ArePair, AreRequests, HasCaughtUp, HasCalled, HasPut, Waits, stored_by, with_submitted, writes_at};
 
-use crate::exchange::{exchange, negotiate};
+use crate::exchange::{send, submit};
 use crate::file_messages::{answer, carried_by, end_request, write_request};
 use connection_core::End;
 use smbd_base::{Message, NoMemory};
+use smbd_outside::{Failed, Sink, write_whole};
 use std::alloc::Global;
 
-/// Sends the requests for these bytes, and the reply to each. Gives the WRITE that came to the server, where there
-/// are bytes.
-pub fn put(
+/// The bytes that one request carries, but for the last, which may be shorter.
+pub const GROUP: usize = 65_536;
+
+/// The WRITEs that may be unanswered.
+pub const WINDOW: usize = 4;
+
+/// One turn of a put: the client submits a WRITE for each group of these bytes, before which so many bytes of the copy
+/// stand, and the server replies to each in turn. Where no bytes come after them, END and its reply follow.
+/// Gives the WRITEs as they came to the server.
+pub fn put_groups(
     alloc: Global,
     client: &mut End,
     server: &mut End,
+    before: u64,
     bytes: &[u8],
-) -> Result<Option<Message>, NoMemory>
-    requires client { client.old ≡ opened side.Client }
-    requires server { server.old ≡ opened side.Server }
-    requires short { length bytes.now ≤ 1316 }
-    ensures put { OnOk result (HasPut client.new.past server.new.past bytes.now) }
-    ensures stored { IfOk result (λ came. stored_by came ≡ bytes.now) }
-    ensures whole { IfOk result (λ came. IfSome came (λ m. 24 ≤ length m)) }
+    ended: bool,
+) -> Result<Vec<Message>, NoMemory>
+    requires pair { ArePair client.old server.old }
+    requires caught_up { HasCaughtUp client.old server.old }
+    requires groups { before % 65536 ≡ 0 }
+    requires short { before + length bytes.now ≤ 16777216 }
+    ensures put { OnOk result ((earlier : List ℕ) → length earlier ≡ before → HasPut client.old server.old false earlier
+        → HasPut client.new server.new ended (earlier ++ bytes.now)) }
+    ensures stored { IfOk result (λ came. stored_by came.items ≡ bytes.now) }
+    ensures requests { IfOk result (λ came. AreRequests came.items) }
+    ensures client { OnOk result (GoesOn client.old.past client.new.past) }
+    ensures server { OnOk result (GoesOn server.old.past server.new.past) }
 {
-    negotiate(client, server)?;
-    if bytes.is_empty() {
-        call(alloc, client, server, end_request(alloc, 1, 0)?)?;
-        return Ok(None);
+    submit_writes(alloc, client, before, bytes)?;
+    let came = answer_writes(alloc, client, server, bytes.len().div_ceil(GROUP))?;
+    if ended {
+        let length = before + bytes.len() as u64;
+        submit(client, end_request(alloc, id_at(length) + 1, length)?)?;
+        call(alloc, client, server)?;
     }
-    let came = call(alloc, client, server, write_request(alloc, 1, 0, bytes)?)?;
-    call(
-        alloc,
-        client,
-        server,
-        end_request(alloc, 2, bytes.len() as u64)?,
-    )?;
-    Ok(Some(came))
+    Ok(came)
 }
 
-/// What the server stores of the WRITE that came, if one did.
-pub fn stored(came: &Option<Message>) -> &[u8]
-    requires { IfSome came.now (λ m. 24 ≤ length m) }
-    ensures { result.now ≡ stored_by came.now }
+/// The number of the request before which so many bytes stand.
+fn id_at(before: u64) -> u32
+    requires { before ≤ 16777216 }
+    ensures { result ≡ (before + 65535) / 65536 }
 {
-    match came {
-        Some(request) => carried_by(request),
-        None => &[],
-    }
+    before.div_ceil(GROUP as u64) as u32
 }
 
-/// Sends a request, to which the server replies by what it says. Gives the request as it came.
-fn call(
+/// Submits a WRITE for each group of these bytes.
+fn submit_writes(alloc: Global, client: &mut End, before: u64, bytes: &[u8]) -> Result<(), NoMemory>
+    requires limits { client.old.limits ≡ usual_limits }
+    requires settled { IsSettled client.old.side client.old.past }
+    requires groups { before % 65536 ≡ 0 }
+    requires short { before + length bytes.now ≤ 16777216 }
+    ensures { OnOk result (client.new ≡ record client.old { past = with_submitted (writes_at before bytes.now) client.old.past; prepared = client.new.prepared }) }
+{
+    let mut id = id_at(before);
+    let mut offset = before;
+    for group in bytes.chunks(GROUP) {
+        id += 1;
+        submit(client, write_request(alloc, id, offset, group)?)?;
+        offset += group.len() as u64;
+    }
+    Ok(())
+}
+
+/// Answers so many of the requests that wait, and gives them as they came.
+fn answer_writes(
     alloc: Global,
     client: &mut End,
     server: &mut End,
-    request: Message,
-) -> Result<Message, NoMemory>
+    count: usize,
+) -> Result<Vec<Message>, NoMemory>
     requires pair { ArePair client.old server.old }
-    requires fits { FitsOne request }
-    requires whole { 24 ≤ length request }
-    ensures called { OnOk result (HasCalled client.old server.old client.new server.new request (reply_for request)) }
-    ensures came { IfOk result (λ m. m ≡ request) }
+    requires wait { length (messages_delivered Server usual_limits server.old.past) + count ≤ length (messages_submitted client.old.past) }
+    ensures pair { OnOk result (ArePair client.new server.new) }
+    ensures submitted { OnOk result (messages_submitted client.new.past ≡ messages_submitted client.old.past) }
+    ensures came { IfOk result (λ came. messages_delivered Server usual_limits server.new.past ≡ messages_delivered Server usual_limits server.old.past ++ came.items) }
+    ensures count { IfOk result (λ came. length came.items ≡ count) }
+    ensures requests { IfOk result (λ came. AreRequests came.items) }
+    ensures client { OnOk result (GoesOn client.old.past client.new.past) }
+    ensures server { OnOk result (GoesOn server.old.past server.new.past) }
 {
-    let came = exchange(client, server, request)?;
-    let reply = answer(alloc, &came)?;
-    exchange(server, client, reply)?;
+    let mut came = Vec::with_capacity(alloc, count)?;
+    for _ in 0..count {
+        came.push(call(alloc, client, server)?)?;
+    }
     Ok(came)
+}
+
+/// Sends the oldest request that waits, to which the server replies by what it says. Gives the request as it came.
+fn call(alloc: Global, client: &mut End, server: &mut End) -> Result<Message, NoMemory>
+    requires pair { ArePair client.old server.old }
+    requires waits { Waits client.old server.old }
+    ensures { IfOk result (λ request. HasCalled client.old server.old client.new server.new request) }
+{
+    let request = send(client, server)?;
+    submit(server, answer(alloc, &request)?)?;
+    send(server, client)?;
+    Ok(request)
+}
+
+/// Writes what these WRITEs carry to the sink.
+pub fn store<K: Sink>(sink: &mut K, writes: &[Message]) -> Result<(), Failed>
+    requires { AreRequests writes.now }
+    ensures whole { OnOk result (Appends (K.written sink.old) (K.written sink.new) (stored_by writes.now)) }
+    ensures front { OnErr result (AppendsFront (K.written sink.old) (K.written sink.new) (stored_by writes.now)) }
+    ensures cause { HasCause (K.faults sink.old) (K.faults sink.new) result }
+{
+    for write in writes {
+        match write_whole(sink, carried_by(write)) {
+            Ok(()) => {}
+            Err(Failed) => return Err(Failed),
+        }
+    }
+    Ok(())
 }

@@ -190,25 +190,185 @@ fn a_copy_gives_its_bytes_and_tells_its_faults(rt: HostRuntime) -> Result<(), Fa
 
 /// So many bytes, of which no two neighbours are equal.
 fn some_bytes(alloc: Global, length: u32) -> Result<Vec<u8>, NoMemory> {
-    let mut bytes = Vec::new(alloc);
+    let mut bytes = Vec::with_capacity(alloc, length as usize)?;
     for number in 0..length {
         bytes.push((number % 251) as u8)?;
     }
     Ok(bytes)
 }
 
-#[test]
-fn a_copy_carries_1316_bytes_and_not_one_more(rt: HostRuntime) -> Result<(), Fail> {
-    let bytes = some_bytes(rt.alloc(), 1_316)?;
-    let longest = copied(rt.alloc(), &PUT, &bytes, FAIR)?;
-    assert_eq!(rt; longest.status, Status::Done);
-    assert_eq!(rt; longest.sink.taken(), bytes.as_slice());
+/// An outside with room for a long copy, which gives and takes up to a group at once.
+const WIDE: Outside<'static> = Outside {
+    most: 65_536,
+    source_fails: &[],
+    sink_fails: &[],
+    log_fails: &[],
+    sink_room: 16_777_216,
+    log_room: 41_943_040,
+};
 
-    let bytes = some_bytes(rt.alloc(), 1_317)?;
-    let longer = copied(rt.alloc(), &PUT, &bytes, FAIR)?;
+/// How many lines of a log begin so.
+fn lines_that_begin(log: &[u8], start: &[u8]) -> usize {
+    log.split(|byte| *byte == b'\n')
+        .filter(|line| line.starts_with(start))
+        .count()
+}
+
+/// The most requests that were unanswered at once: the client submits one, and takes a reply in a frame of 36 bytes.
+fn most_unanswered(log: &[u8]) -> usize {
+    let mut unanswered = 0usize;
+    let mut most = 0;
+    for line in log.split(|byte| *byte == b'\n') {
+        if line.starts_with(b"C submit ") {
+            unanswered = unanswered.saturating_add(1);
+        } else if line.starts_with(b"C take ") && line.ends_with(b" 36") {
+            unanswered = unanswered.saturating_sub(1);
+        }
+        most = most.max(unanswered);
+    }
+    most
+}
+
+#[test]
+fn a_copy_carries_messages_of_many_pieces(rt: HostRuntime) -> Result<(), Fail> {
+    // the bytes, the requests that it takes, and how many of them are unanswered at once
+    let cases: [(u32, usize, usize); 8] = [
+        (1_316, 2, 1),
+        (1_317, 2, 1),
+        (65_536, 2, 1),
+        (65_537, 3, 2),
+        (100_000, 3, 2),
+        (262_144, 5, 4),
+        (262_145, 6, 4),
+        (600_000, 11, 4),
+    ];
+    for (length, requests, unanswered) in cases {
+        let bytes = some_bytes(rt.alloc(), length)?;
+        let ran = copied(rt.alloc(), &PUT, &bytes, WIDE)?;
+        assert_eq!(rt; ran.status, Status::Done, "{length} bytes");
+        assert!(rt; ran.sink.taken() == bytes.as_slice(), "{length} bytes");
+        assert_eq!(rt;
+            lines_that_begin(ran.log.taken(), b"C submit "),
+            requests,
+            "{length} bytes"
+        );
+        assert_eq!(rt;
+            lines_that_begin(ran.log.taken(), b"S submit 12"),
+            requests,
+            "{length} bytes"
+        );
+        assert_eq!(rt;
+            most_unanswered(ran.log.taken()),
+            unanswered,
+            "{length} bytes"
+        );
+    }
+    Ok(())
+}
+
+#[test]
+fn a_copy_of_100000_bytes_has_two_writes(rt: HostRuntime) -> Result<(), Fail> {
+    let bytes = some_bytes(rt.alloc(), 100_000)?;
+    let ran = copied(rt.alloc(), &PUT, &bytes, WIDE)?;
+    assert_eq!(rt; ran.status, Status::Done);
+    for line in [
+        b"C submit 65560".as_slice(),
+        b"C submit 34488",
+        b"C submit 24",
+    ] {
+        assert_eq!(rt; lines_that_begin(ran.log.taken(), line), 1);
+    }
+    Ok(())
+}
+
+#[test]
+fn a_copy_carries_16777216_bytes_and_not_one_more(rt: HostRuntime) -> Result<(), Fail> {
+    let mut bytes = some_bytes(rt.alloc(), 16_777_216)?;
+    let longest = copied(rt.alloc(), &PUT, &bytes, WIDE)?;
+    assert_eq!(rt; longest.status, Status::Done);
+    assert!(rt; longest.sink.taken() == bytes.as_slice());
+    assert_eq!(rt; lines_that_begin(longest.log.taken(), b"C submit "), 257);
+
+    bytes.push(7)?;
+    let longer = copied(rt.alloc(), &PUT, &bytes, WIDE)?;
     assert_eq!(rt; longer.status, Status::TooLong);
-    assert_eq!(rt; longer.sink.taken(), b"".as_slice());
-    assert_eq!(rt; longer.log.taken(), OPENING);
+    // each group before the byte too many was stored, and nothing more was submitted
+    assert_eq!(rt; longer.sink.taken().len(), 16_777_216);
+    assert!(rt; bytes.as_slice().starts_with(longer.sink.taken()));
+    assert_eq!(rt; lines_that_begin(longer.log.taken(), b"C submit "), 256);
+    assert_eq!(rt; lines_that_begin(longer.log.taken(), b"S submit "), 256);
+    Ok(())
+}
+
+#[test]
+fn a_long_copy_tells_its_faults(rt: HostRuntime) -> Result<(), Fail> {
+    // how it ends, how many bytes the sink has, and how many requests the log tells
+    let cases: [(Outside<'_>, Status, usize, usize); 7] = [
+        (WIDE, Status::Done, 300_000, 6),
+        (
+            Outside {
+                source_fails: &[2],
+                ..WIDE
+            },
+            Status::ReadFault,
+            0,
+            0,
+        ),
+        (
+            Outside {
+                source_fails: &[5],
+                ..WIDE
+            },
+            Status::ReadFault,
+            262_144,
+            4,
+        ),
+        (
+            Outside {
+                sink_fails: &[2],
+                ..WIDE
+            },
+            Status::WriteFault,
+            65_536,
+            4,
+        ),
+        (
+            Outside {
+                sink_room: 280_000,
+                ..WIDE
+            },
+            Status::WriteFault,
+            280_000,
+            6,
+        ),
+        (
+            Outside {
+                log_fails: &[1],
+                ..WIDE
+            },
+            Status::LogFault,
+            0,
+            0,
+        ),
+        (
+            Outside {
+                log_room: 580_000,
+                ..WIDE
+            },
+            Status::LogFault,
+            262_144,
+            5,
+        ),
+    ];
+    let bytes = some_bytes(rt.alloc(), 300_000)?;
+    for (outside, status, stored, requests) in cases {
+        assert!(rt; 1 <= outside.most);
+        let ran = copied(rt.alloc(), &PUT, &bytes, outside)?;
+        assert_eq!(rt; ran.status, status);
+        assert_eq!(rt; ran.sink.taken().len(), stored);
+        assert!(rt; bytes.as_slice().starts_with(ran.sink.taken()));
+        assert_eq!(rt; lines_that_begin(ran.log.taken(), b"C submit "), requests);
+    }
     Ok(())
 }
 

@@ -1,120 +1,116 @@
-use Rattle.std.proofs.Common.{◌≡◌, ℕ, List, [], Option, Ok, Err, refl, sym, ap, ◌∙◌, subst, lit≤, arith}
+use Rattle.std.proofs.Common.{◌≡◌, ℕ, ◌+◌, length, List, [], refl, sym, ap, subst, lit≤, arith}
 use Rattle.std.proofs.KnownBytes.{Consumes-nil}
-use Rattle.std.specs.Io.KnownBytes.{Appends, Consumes, IsAtEnd}
-use Rattle.smbd_base.specs.declared.event.Event.{Event}
-use Rattle.smbd_outside.specs.declared.transfer.Filled.{Filled}
-use Rattle.smbd_outside.specs.Streams.{AppendsFront}
-use Rattle.smbd_cli.specs.LogText.{lines_text}
-use Rattle.smbd_cli.specs.Put.{HasPut}
-use Rattle.smbd_cli.proofs.Promising.{opening_text, opening_lines, consumed, put_log, ends_opening, ends_without_memory, ends_too_long, ends_reading, ends_logging, ends_writing, ends_done}
+use Rattle.smbd_cli.specs.Progress.{moved, IsBeforeTurn, IsAfterTurn}
+use Rattle.smbd_cli.specs.Promise.{stream_of}
+use Rattle.smbd_cli.proofs.Groups.{agreed_put}
+use Rattle.smbd_cli.proofs.Promising.{stops_reading, stops_without_memory}
+use Rattle.smbd_cli.proofs.Turning.{opening, same, between_opening, next_turn, stops_opening, went_on, went_on_server, told_within, turned, turned_reading, turned_done}
 use Rattle.smbd_cli.proofs.copy.copy_between.Goals as goal
 
 pub returns-in-Err : goal.returns-in-Err
-returns-in-Err g c =
-    let lines = opening_lines c.args.client.now c.args.server.now c.history.result.now c.history-2.result.now c.requires.client c.requires.server c.history.ensures.past c.history-2.ensures.past in
-    record {
-      promise = ends_opening (g.S.Source.left c.args.source.now) (g.K.Sink.written c.args.sink.now) (g.L.Sink.written c.args.log.now) (g.L.Sink.written c.log_events.new.log)
-          (g.S.Source.faults c.args.source.now) (g.K.Sink.faults c.args.sink.now) (g.L.Sink.faults c.args.log.now) (g.L.Sink.faults c.log_events.new.log) c.in-Err.status
-          (subst (λ (t : List ℕ). AppendsFront (g.L.Sink.written c.args.log.now) (g.L.Sink.written c.log_events.new.log) t) lines c.in-Err.ensures.front) c.in-Err.ensures.cause;
-    }
+returns-in-Err g c = record {
+  promise = stops_opening c.args.client.now c.args.server.now c.history.result.now c.history-2.result.now c.nothing-client_told.result c.nothing-server_told.result
+      (g.S.Source.left c.args.source.now) (g.K.Sink.written c.args.sink.now) (g.L.Sink.written c.args.log.now) (g.L.Sink.written c.tell.new.log) (g.S.Source.faults c.args.source.now) (g.K.Sink.faults c.args.sink.now)
+      (g.L.Sink.faults c.args.log.now) (g.L.Sink.faults c.tell.new.log) c.in-Err.status c.requires.client c.requires.server c.history.ensures.past c.history-2.ensures.past
+      c.nothing-client_told.ensures c.nothing-server_told.ensures c.in-Err.ensures.front c.in-Err.ensures.cause;
+}
 
 pub returns-in_default : goal.returns-in_default
 returns-in_default g c =
-    let lines = opening_lines c.args.client.now c.args.server.now c.history.result.now c.history-2.result.now c.requires.client c.requires.server c.history.ensures.past c.history-2.ensures.past in
+    let b = between_opening c.args.client.now c.args.server.now c.history.result.now c.history-2.result.now c.nothing-client_told.result c.nothing-server_told.result
+    c.tell.new.client_told c.tell.new.server_told (g.S.Source.left c.args.source.now) (g.K.Sink.written c.args.sink.now) (g.L.Sink.written c.args.log.now) (g.L.Sink.written c.tell.new.log)
+    (g.S.Source.faults c.args.source.now) (g.K.Sink.faults c.args.sink.now) (g.L.Sink.faults c.args.log.now) (g.L.Sink.faults c.tell.new.log) c.requires.client c.requires.server c.history.ensures.past c.history-2.ensures.past
+    c.nothing-client_told.ensures c.nothing-server_told.ensures c.in-Ok.ensures.logged c.in-Ok.ensures.client c.in-Ok.ensures.server c.tell.ensures.later in
     record {
-      promise = ends_without_memory (g.S.Source.left c.args.source.now) (g.S.Source.left c.args.source.now) (g.K.Sink.written c.args.sink.now) (g.L.Sink.written c.args.log.now)
-          (g.L.Sink.written c.log_events.new.log) (g.S.Source.faults c.args.source.now) (g.S.Source.faults c.args.source.now) (g.K.Sink.faults c.args.sink.now)
-          (g.L.Sink.faults c.args.log.now) (g.L.Sink.faults c.log_events.new.log) [] (Consumes-nil (g.S.Source.left c.args.source.now))
-          (subst (λ (t : List ℕ). Appends (g.L.Sink.written c.args.log.now) (g.L.Sink.written c.log_events.new.log) t) lines c.in-Ok.ensures.logged) (lit≤ tt);
+      promise = stops_without_memory (same (g.S.Source.left c.args.source.now) (g.S.Source.faults c.args.source.now)) (same (g.K.Sink.written c.args.sink.now) (g.K.Sink.faults c.args.sink.now)) (moved (same (g.L.Sink.written c.args.log.now) (g.L.Sink.faults c.args.log.now)) (g.L.Sink.written c.tell.new.log) (g.L.Sink.faults c.tell.new.log)) opening opening c.tell.new.client_told c.tell.new.server_told [] b [] (g.S.Source.left c.args.source.now) (g.S.Source.faults c.args.source.now)
+          (Consumes-nil (g.S.Source.left c.args.source.now)) (lit≤ tt);
     }
 
-pub returns-in-Ok-Full : goal.returns-in-Ok-Full
-returns-in-Ok-Full g c =
-    let lines = opening_lines c.args.client.now c.args.server.now c.history.result.now c.history-2.result.now c.requires.client c.requires.server c.history.ensures.past c.history-2.ensures.past in
-    let full = c.in-Ok-Full.ensures.full (ap (λ (f : Filled). Ok f) c.in-Ok-Full.field-0-is) in
+pub returns-in-Err-read_turn : goal.returns-in-Err-read_turn
+returns-in-Err-read_turn g c =
+    let b = between_opening c.args.client.now c.args.server.now c.history.result.now c.history-2.result.now c.nothing-client_told.result c.nothing-server_told.result
+    c.tell.new.client_told c.tell.new.server_told (g.S.Source.left c.args.source.now) (g.K.Sink.written c.args.sink.now) (g.L.Sink.written c.args.log.now) (g.L.Sink.written c.tell.new.log)
+    (g.S.Source.faults c.args.source.now) (g.K.Sink.faults c.args.sink.now) (g.L.Sink.faults c.args.log.now) (g.L.Sink.faults c.tell.new.log) c.requires.client c.requires.server c.history.ensures.past c.history-2.ensures.past
+    c.nothing-client_told.ensures c.nothing-server_told.ensures c.in-Ok.ensures.logged c.in-Ok.ensures.client c.in-Ok.ensures.server c.tell.ensures.later in
     record {
-      promise = ends_too_long (g.S.Source.left c.args.source.now) (g.S.Source.left c.fill.new.source) (g.K.Sink.written c.args.sink.now) (g.L.Sink.written c.args.log.now)
-          (g.L.Sink.written c.log_events.new.log) (g.S.Source.faults c.args.source.now) (g.S.Source.faults c.fill.new.source) (g.K.Sink.faults c.args.sink.now)
-          (g.L.Sink.faults c.args.log.now) (g.L.Sink.faults c.log_events.new.log) c.fill.new.bytes.items
-          (consumed (g.S.Source.left c.args.source.now) (g.S.Source.left c.fill.new.source) c.in-Ok-with_capacity.bytes.items c.fill.new.bytes.items c.in-Ok-Full.ensures.gains c.in-Ok-with_capacity.ensures.items)
-          (subst (λ (t : List ℕ). Appends (g.L.Sink.written c.args.log.now) (g.L.Sink.written c.log_events.new.log) t) lines c.in-Ok.ensures.logged) (omega (arith, full));
+      promise = stops_reading (same (g.S.Source.left c.args.source.now) (g.S.Source.faults c.args.source.now)) (same (g.K.Sink.written c.args.sink.now) (g.K.Sink.faults c.args.sink.now)) (moved (same (g.L.Sink.written c.args.log.now) (g.L.Sink.faults c.args.log.now)) (g.L.Sink.written c.tell.new.log) (g.L.Sink.faults c.tell.new.log)) opening opening c.tell.new.client_told c.tell.new.server_told [] b c.read_turn.new.bytes.items (g.S.Source.left c.read_turn.new.source) (g.S.Source.faults c.read_turn.new.source)
+          c.in-Err-read_turn.status c.read_turn.ensures.read c.in-Err-read_turn.ensures.stops;
     }
 
-pub returns-in-Err-fill : goal.returns-in-Err-fill
-returns-in-Err-fill g c =
-    let lines = opening_lines c.args.client.now c.args.server.now c.history.result.now c.history-2.result.now c.requires.client c.requires.server c.history.ensures.past c.history-2.ensures.past in
-    let short = c.in-Err-fill.ensures.short (λ e. (let b : ⊥ = cc in b)) in
+pub returns-in_default-negotiate : goal.returns-in_default-negotiate
+returns-in_default-negotiate g c =
+    let b = between_opening c.args.client.now c.args.server.now c.history.result.now c.history-2.result.now c.nothing-client_told.result c.nothing-server_told.result
+    c.tell.new.client_told c.tell.new.server_told (g.S.Source.left c.args.source.now) (g.K.Sink.written c.args.sink.now) (g.L.Sink.written c.args.log.now) (g.L.Sink.written c.tell.new.log)
+    (g.S.Source.faults c.args.source.now) (g.K.Sink.faults c.args.sink.now) (g.L.Sink.faults c.args.log.now) (g.L.Sink.faults c.tell.new.log) c.requires.client c.requires.server c.history.ensures.past c.history-2.ensures.past
+    c.nothing-client_told.ensures c.nothing-server_told.ensures c.in-Ok.ensures.logged c.in-Ok.ensures.client c.in-Ok.ensures.server c.tell.ensures.later in
     record {
-      promise = ends_reading (g.S.Source.left c.args.source.now) (g.S.Source.left c.fill.new.source) (g.K.Sink.written c.args.sink.now) (g.L.Sink.written c.args.log.now)
-          (g.L.Sink.written c.log_events.new.log) (g.S.Source.faults c.args.source.now) (g.S.Source.faults c.fill.new.source) (g.K.Sink.faults c.args.sink.now)
-          (g.L.Sink.faults c.args.log.now) (g.L.Sink.faults c.log_events.new.log) c.fill.new.bytes.items
-          (consumed (g.S.Source.left c.args.source.now) (g.S.Source.left c.fill.new.source) c.in-Ok-with_capacity.bytes.items c.fill.new.bytes.items c.in-Err-fill.ensures.gains c.in-Ok-with_capacity.ensures.items)
-          (subst (λ (t : List ℕ). Appends (g.L.Sink.written c.args.log.now) (g.L.Sink.written c.log_events.new.log) t) lines c.in-Ok.ensures.logged) (omega (arith, short)) c.in-Err-fill.ensures.cause.failed;
+      promise = stops_without_memory (same (g.S.Source.left c.args.source.now) (g.S.Source.faults c.args.source.now)) (same (g.K.Sink.written c.args.sink.now) (g.K.Sink.faults c.args.sink.now)) (moved (same (g.L.Sink.written c.args.log.now) (g.L.Sink.faults c.args.log.now)) (g.L.Sink.written c.tell.new.log) (g.L.Sink.faults c.tell.new.log)) opening opening c.tell.new.client_told c.tell.new.server_told [] b c.read_turn.new.bytes.items (g.S.Source.left c.read_turn.new.source) (g.S.Source.faults c.read_turn.new.source)
+          c.read_turn.ensures.read c.in-Ok-read_turn.ensures.short;
     }
 
-pub returns-in_default-put : goal.returns-in_default-put
-returns-in_default-put g c =
-    let lines = opening_lines c.args.client.now c.args.server.now c.history.result.now c.history-2.result.now c.requires.client c.requires.server c.history.ensures.past c.history-2.ensures.past in
-    let short = c.in-Ok-End.ensures.short (λ e. (let is = c.in-Ok-End.field-0-is in (let b : ⊥ = cc in b))) in
+pub loop-status-init : goal.loop-status-init
+loop-status-init g c =
+    let b = between_opening c.args.client.now c.args.server.now c.history.result.now c.history-2.result.now c.nothing-client_told.result c.nothing-server_told.result
+    c.tell.new.client_told c.tell.new.server_told (g.S.Source.left c.args.source.now) (g.K.Sink.written c.args.sink.now) (g.L.Sink.written c.args.log.now) (g.L.Sink.written c.tell.new.log)
+    (g.S.Source.faults c.args.source.now) (g.K.Sink.faults c.args.sink.now) (g.L.Sink.faults c.args.log.now) (g.L.Sink.faults c.tell.new.log) c.requires.client c.requires.server c.history.ensures.past c.history-2.ensures.past
+    c.nothing-client_told.ensures c.nothing-server_told.ensures c.in-Ok.ensures.logged c.in-Ok.ensures.client c.in-Ok.ensures.server c.tell.ensures.later in
     record {
-      promise = ends_without_memory (g.S.Source.left c.args.source.now) (g.S.Source.left c.fill.new.source) (g.K.Sink.written c.args.sink.now) (g.L.Sink.written c.args.log.now)
-          (g.L.Sink.written c.log_events.new.log) (g.S.Source.faults c.args.source.now) (g.S.Source.faults c.fill.new.source) (g.K.Sink.faults c.args.sink.now)
-          (g.L.Sink.faults c.args.log.now) (g.L.Sink.faults c.log_events.new.log) c.fill.new.bytes.items
-          (consumed (g.S.Source.left c.args.source.now) (g.S.Source.left c.fill.new.source) c.in-Ok-with_capacity.bytes.items c.fill.new.bytes.items c.in-Ok-End.ensures.gains c.in-Ok-with_capacity.ensures.items)
-          (subst (λ (t : List ℕ). Appends (g.L.Sink.written c.args.log.now) (g.L.Sink.written c.log_events.new.log) t) lines c.in-Ok.ensures.logged) (omega (arith, short));
+      so_far = next_turn (same (g.S.Source.left c.args.source.now) (g.S.Source.faults c.args.source.now)) (same (g.K.Sink.written c.args.sink.now) (g.K.Sink.faults c.args.sink.now)) (moved (same (g.L.Sink.written c.args.log.now) (g.L.Sink.faults c.args.log.now)) (g.L.Sink.written c.tell.new.log) (g.L.Sink.faults c.tell.new.log)) opening opening c.negotiate.new.client c.negotiate.new.server c.tell.new.client_told c.tell.new.server_told [] c.read_turn.new.bytes.items c.in-Ok-read_turn.ended
+          (g.S.Source.left c.read_turn.new.source) (g.S.Source.faults c.read_turn.new.source) b
+          (went_on c.args.client.now c.negotiate.new.client c.in-Ok-negotiate.ensures.client) (went_on_server c.args.server.now c.negotiate.new.server c.in-Ok-negotiate.ensures.server)
+          (agreed_put c.args.client.now c.args.server.now c.negotiate.new.client c.negotiate.new.server c.requires.client c.requires.server c.in-Ok-negotiate.ensures.client c.in-Ok-negotiate.ensures.server)
+          c.read_turn.ensures.read c.read_turn.ensures.later c.in-Ok-read_turn.ensures.short c.in-Ok-read_turn.ensures.last c.in-Ok-read_turn.ensures.whole;
+      room = c.read_turn.ensures.room;
     }
 
-pub returns-in-Err-log_events : goal.returns-in-Err-log_events
-returns-in-Err-log_events g c =
-    let lines = opening_lines c.args.client.now c.args.server.now c.history.result.now c.history-2.result.now c.requires.client c.requires.server c.history.ensures.past c.history-2.ensures.past in
-    let short = c.in-Ok-End.ensures.short (λ e. (let is = c.in-Ok-End.field-0-is in (let b : ⊥ = cc in b))) in
-    let h : HasPut c.put.new.client.past c.put.new.server.past c.fill.new.bytes.items =
-    subst (λ (bytes : List ℕ). HasPut c.put.new.client.past c.put.new.server.past bytes) c.deref.ensures.value c.in-Ok-put.ensures.put in
-    let log = put_log c.put.new.client.past c.put.new.server.past c.history-3.result.now c.history-4.result.now c.later_events-client_events.result.now c.later_events-server_events.result.now
-    c.fill.new.bytes.items h c.history-3.ensures.past c.history-4.ensures.past c.later_events-client_events.ensures c.later_events-server_events.ensures in
-    let read = consumed (g.S.Source.left c.args.source.now) (g.S.Source.left c.fill.new.source) c.in-Ok-with_capacity.bytes.items c.fill.new.bytes.items c.in-Ok-End.ensures.gains c.in-Ok-with_capacity.ensures.items in
-    let opened = subst (λ (t : List ℕ). Appends (g.L.Sink.written c.args.log.now) (g.L.Sink.written c.log_events.new.log) t) lines c.in-Ok.ensures.logged in
+pub turn-requires-clause-client : goal.turn-requires-clause-client
+turn-requires-clause-client g c =
+    let b = c.loop-status.invariant.so_far in
+    told_within b.told_client c.loop-status.client.past c.loop-status.client_told b.so_far.client_is b.client_more
+
+pub turn-requires-clause-server : goal.turn-requires-clause-server
+turn-requires-clause-server g c =
+    let b = c.loop-status.invariant.so_far in
+    told_within b.told_server c.loop-status.server.past c.loop-status.server_told b.so_far.server_is b.server_more
+
+pub returns-in-Err-turn : goal.returns-in-Err-turn
+returns-in-Err-turn g c =
+    let b = subst (λ (bs : List ℕ). IsBeforeTurn (stream_of g.S.Source.left g.S.Source.faults c.args.source.now c.loop-status.source) (stream_of g.K.Sink.written g.K.Sink.faults c.args.sink.now c.loop-status.sink) (stream_of g.L.Sink.written g.L.Sink.faults c.args.log.now c.loop-status.log) c.loop-status.client c.loop-status.server c.loop-status.client_told c.loop-status.server_told c.loop-status.before bs c.loop-status.ended)
+    (sym c.deref.ensures.value) c.loop-status.invariant.so_far in
+    record { promise = c.in-Err-turn.ensures.stops (stream_of g.S.Source.left g.S.Source.faults c.args.source.now c.loop-status.source) (stream_of g.K.Sink.written g.K.Sink.faults c.args.sink.now c.loop-status.sink) (stream_of g.L.Sink.written g.L.Sink.faults c.args.log.now c.loop-status.log) refl refl refl refl b }
+
+pub returns-then-ended : goal.returns-then-ended
+returns-then-ended g c =
+    let b = subst (λ (bs : List ℕ). IsBeforeTurn (stream_of g.S.Source.left g.S.Source.faults c.args.source.now c.loop-status.source) (stream_of g.K.Sink.written g.K.Sink.faults c.args.sink.now c.loop-status.sink) (stream_of g.L.Sink.written g.L.Sink.faults c.args.log.now c.loop-status.log) c.loop-status.client c.loop-status.server c.loop-status.client_told c.loop-status.server_told c.loop-status.before bs c.loop-status.ended)
+    (sym c.deref.ensures.value) c.loop-status.invariant.so_far in
+    let a = c.in-Ok-turn.ensures.goes_on (stream_of g.S.Source.left g.S.Source.faults c.args.source.now c.loop-status.source) (stream_of g.K.Sink.written g.K.Sink.faults c.args.sink.now c.loop-status.sink) (stream_of g.L.Sink.written g.L.Sink.faults c.args.log.now c.loop-status.log) refl refl refl refl b in
+    record { promise = turned_done (stream_of g.S.Source.left g.S.Source.faults c.args.source.now c.loop-status.source) (stream_of g.K.Sink.written g.K.Sink.faults c.args.sink.now c.turn.new.sink) (stream_of g.L.Sink.written g.L.Sink.faults c.args.log.now c.turn.new.log) c.turn.new.client c.turn.new.server c.turn.new.client_told c.turn.new.server_told c.loop-status.ended (c.loop-status.before + length c.deref.result.now) a c.if-ended.true }
+
+pub loop-status-preserved : goal.loop-status-preserved
+loop-status-preserved g c =
+    let b = subst (λ (bs : List ℕ). IsBeforeTurn (stream_of g.S.Source.left g.S.Source.faults c.args.source.now c.loop-status.source) (stream_of g.K.Sink.written g.K.Sink.faults c.args.sink.now c.loop-status.sink) (stream_of g.L.Sink.written g.L.Sink.faults c.args.log.now c.loop-status.log) c.loop-status.client c.loop-status.server c.loop-status.client_told c.loop-status.server_told c.loop-status.before bs c.loop-status.ended)
+    (sym c.deref.ensures.value) c.loop-status.invariant.so_far in
+    let a = c.in-Ok-turn.ensures.goes_on (stream_of g.S.Source.left g.S.Source.faults c.args.source.now c.loop-status.source) (stream_of g.K.Sink.written g.K.Sink.faults c.args.sink.now c.loop-status.sink) (stream_of g.L.Sink.written g.L.Sink.faults c.args.log.now c.loop-status.log) refl refl refl refl b in
+    let same_all : c.loop-status.before + length c.deref.result.now ≡ c.loop-status.before + c.len.result =
+    omega (arith, c.len.ensures, c.loop-status.bytes.ok.0, ap length c.deref.ensures.value) in
+    let a' = subst (λ (n : ℕ). IsAfterTurn (stream_of g.S.Source.left g.S.Source.faults c.args.source.now c.loop-status.source) (stream_of g.K.Sink.written g.K.Sink.faults c.args.sink.now c.turn.new.sink) (stream_of g.L.Sink.written g.L.Sink.faults c.args.log.now c.turn.new.log) c.turn.new.client c.turn.new.server c.turn.new.client_told c.turn.new.server_told c.loop-status.ended n) same_all a in
     record {
-      promise = ends_logging (g.S.Source.left c.args.source.now) (g.S.Source.left c.fill.new.source) (g.K.Sink.written c.args.sink.now) (g.L.Sink.written c.args.log.now) (g.L.Sink.written c.log_events.new.log)
-          (g.S.Source.faults c.args.source.now) (g.S.Source.faults c.fill.new.source) (g.K.Sink.faults c.args.sink.now) (g.L.Sink.faults c.args.log.now)
-          c.put.new.client.past c.put.new.server.past c.fill.new.bytes.items (lines_text c.later_events-client_events.result.now c.later_events-server_events.result.now) read opened h (omega (arith, short)) log
-          (g.L.Sink.written c.log_events-2.new.log) (g.L.Sink.faults c.log_events.new.log) (g.L.Sink.faults c.log_events-2.new.log) c.in-Err-log_events.status
-          c.in-Err-log_events.ensures.front c.log_events.ensures.later c.in-Err-log_events.ensures.cause;
+      so_far = turned (stream_of g.S.Source.left g.S.Source.faults c.args.source.now c.loop-status.source) (stream_of g.K.Sink.written g.K.Sink.faults c.args.sink.now c.turn.new.sink) (stream_of g.L.Sink.written g.L.Sink.faults c.args.log.now c.turn.new.log) c.turn.new.client c.turn.new.server c.turn.new.client_told c.turn.new.server_told c.loop-status.ended (c.loop-status.before + c.len.result)
+          c.read_turn-in-loop-status.new.bytes.items c.in-Ok-read_turn-2.end (g.S.Source.left c.read_turn-in-loop-status.new.source) (g.S.Source.faults c.read_turn-in-loop-status.new.source) a' c.if-ended.false
+          c.read_turn-in-loop-status.ensures.read c.read_turn-in-loop-status.ensures.later c.in-Ok-read_turn-2.ensures.short c.in-Ok-read_turn-2.ensures.last c.in-Ok-read_turn-2.ensures.whole;
+      room = c.read_turn-in-loop-status.ensures.room;
     }
 
-pub returns-in-Ok-write_whole : goal.returns-in-Ok-write_whole
-returns-in-Ok-write_whole g c =
-    let lines = opening_lines c.args.client.now c.args.server.now c.history.result.now c.history-2.result.now c.requires.client c.requires.server c.history.ensures.past c.history-2.ensures.past in
-    let short = c.in-Ok-End.ensures.short (λ e. (let is = c.in-Ok-End.field-0-is in (let b : ⊥ = cc in b))) in
-    let h : HasPut c.put.new.client.past c.put.new.server.past c.fill.new.bytes.items =
-    subst (λ (bytes : List ℕ). HasPut c.put.new.client.past c.put.new.server.past bytes) c.deref.ensures.value c.in-Ok-put.ensures.put in
-    let log = put_log c.put.new.client.past c.put.new.server.past c.history-3.result.now c.history-4.result.now c.later_events-client_events.result.now c.later_events-server_events.result.now
-    c.fill.new.bytes.items h c.history-3.ensures.past c.history-4.ensures.past c.later_events-client_events.ensures c.later_events-server_events.ensures in
-    let read = consumed (g.S.Source.left c.args.source.now) (g.S.Source.left c.fill.new.source) c.in-Ok-with_capacity.bytes.items c.fill.new.bytes.items c.in-Ok-End.ensures.gains c.in-Ok-with_capacity.ensures.items in
-    let opened = subst (λ (t : List ℕ). Appends (g.L.Sink.written c.args.log.now) (g.L.Sink.written c.log_events.new.log) t) lines c.in-Ok.ensures.logged in
+pub returns-in-Err-read_turn-2 : goal.returns-in-Err-read_turn-2
+returns-in-Err-read_turn-2 g c =
+    let b = subst (λ (bs : List ℕ). IsBeforeTurn (stream_of g.S.Source.left g.S.Source.faults c.args.source.now c.loop-status.source) (stream_of g.K.Sink.written g.K.Sink.faults c.args.sink.now c.loop-status.sink) (stream_of g.L.Sink.written g.L.Sink.faults c.args.log.now c.loop-status.log) c.loop-status.client c.loop-status.server c.loop-status.client_told c.loop-status.server_told c.loop-status.before bs c.loop-status.ended)
+    (sym c.deref.ensures.value) c.loop-status.invariant.so_far in
+    let a = c.in-Ok-turn.ensures.goes_on (stream_of g.S.Source.left g.S.Source.faults c.args.source.now c.loop-status.source) (stream_of g.K.Sink.written g.K.Sink.faults c.args.sink.now c.loop-status.sink) (stream_of g.L.Sink.written g.L.Sink.faults c.args.log.now c.loop-status.log) refl refl refl refl b in
+    let same_all : c.loop-status.before + length c.deref.result.now ≡ c.loop-status.before + c.len.result =
+    omega (arith, c.len.ensures, c.loop-status.bytes.ok.0, ap length c.deref.ensures.value) in
+    let a' = subst (λ (n : ℕ). IsAfterTurn (stream_of g.S.Source.left g.S.Source.faults c.args.source.now c.loop-status.source) (stream_of g.K.Sink.written g.K.Sink.faults c.args.sink.now c.turn.new.sink) (stream_of g.L.Sink.written g.L.Sink.faults c.args.log.now c.turn.new.log) c.turn.new.client c.turn.new.server c.turn.new.client_told c.turn.new.server_told c.loop-status.ended n) same_all a in
     record {
-      promise = ends_done (g.S.Source.left c.args.source.now) (g.S.Source.left c.fill.new.source) (g.K.Sink.written c.args.sink.now) (g.L.Sink.written c.args.log.now) (g.L.Sink.written c.log_events.new.log)
-          (g.S.Source.faults c.args.source.now) (g.S.Source.faults c.fill.new.source) (g.K.Sink.faults c.args.sink.now) (g.L.Sink.faults c.args.log.now)
-          c.put.new.client.past c.put.new.server.past c.fill.new.bytes.items (lines_text c.later_events-client_events.result.now c.later_events-server_events.result.now) read opened h (omega (arith, short)) log
-          (g.L.Sink.written c.log_events-2.new.log) (g.K.Sink.written c.write_whole.new.sink) (g.L.Sink.faults c.log_events-2.new.log) (g.K.Sink.faults c.write_whole.new.sink) c.stored.result.now
-          c.in-Ok-log_events.ensures.logged (c.stored.ensures ∙ c.in-Ok-put.ensures.stored ∙ c.deref.ensures.value) c.in-Ok-write_whole.ensures.whole
-          (c.in-Ok-End.ensures.end (ap (λ (f : Filled). Ok f) c.in-Ok-End.field-0-is));
-    }
-
-pub returns : goal.returns
-returns g c =
-    let lines = opening_lines c.args.client.now c.args.server.now c.history.result.now c.history-2.result.now c.requires.client c.requires.server c.history.ensures.past c.history-2.ensures.past in
-    let short = c.in-Ok-End.ensures.short (λ e. (let is = c.in-Ok-End.field-0-is in (let b : ⊥ = cc in b))) in
-    let h : HasPut c.put.new.client.past c.put.new.server.past c.fill.new.bytes.items =
-    subst (λ (bytes : List ℕ). HasPut c.put.new.client.past c.put.new.server.past bytes) c.deref.ensures.value c.in-Ok-put.ensures.put in
-    let log = put_log c.put.new.client.past c.put.new.server.past c.history-3.result.now c.history-4.result.now c.later_events-client_events.result.now c.later_events-server_events.result.now
-    c.fill.new.bytes.items h c.history-3.ensures.past c.history-4.ensures.past c.later_events-client_events.ensures c.later_events-server_events.ensures in
-    let read = consumed (g.S.Source.left c.args.source.now) (g.S.Source.left c.fill.new.source) c.in-Ok-with_capacity.bytes.items c.fill.new.bytes.items c.in-Ok-End.ensures.gains c.in-Ok-with_capacity.ensures.items in
-    let opened = subst (λ (t : List ℕ). Appends (g.L.Sink.written c.args.log.now) (g.L.Sink.written c.log_events.new.log) t) lines c.in-Ok.ensures.logged in
-    record {
-      promise = ends_writing (g.S.Source.left c.args.source.now) (g.S.Source.left c.fill.new.source) (g.K.Sink.written c.args.sink.now) (g.L.Sink.written c.args.log.now) (g.L.Sink.written c.log_events.new.log)
-          (g.S.Source.faults c.args.source.now) (g.S.Source.faults c.fill.new.source) (g.K.Sink.faults c.args.sink.now) (g.L.Sink.faults c.args.log.now)
-          c.put.new.client.past c.put.new.server.past c.fill.new.bytes.items (lines_text c.later_events-client_events.result.now c.later_events-server_events.result.now) read opened h (omega (arith, short)) log
-          (g.L.Sink.written c.log_events-2.new.log) (g.K.Sink.written c.write_whole.new.sink) (g.L.Sink.faults c.log_events-2.new.log) (g.K.Sink.faults c.write_whole.new.sink) c.stored.result.now
-          c.in-Ok-log_events.ensures.logged (c.stored.ensures ∙ c.in-Ok-put.ensures.stored ∙ c.deref.ensures.value) c.in-Err-write_whole.ensures.front c.in-Err-write_whole.ensures.cause.failed;
+      promise = turned_reading (stream_of g.S.Source.left g.S.Source.faults c.args.source.now c.loop-status.source) (stream_of g.K.Sink.written g.K.Sink.faults c.args.sink.now c.turn.new.sink) (stream_of g.L.Sink.written g.L.Sink.faults c.args.log.now c.turn.new.log) c.turn.new.client c.turn.new.server c.turn.new.client_told c.turn.new.server_told c.loop-status.ended (c.loop-status.before + c.len.result)
+          c.read_turn-in-loop-status.new.bytes.items (g.S.Source.left c.read_turn-in-loop-status.new.source) (g.S.Source.faults c.read_turn-in-loop-status.new.source) c.in-Err-read_turn-2.status a' c.if-ended.false
+          c.read_turn-in-loop-status.ensures.read c.in-Err-read_turn-2.ensures.stops;
     }

@@ -1,4 +1,4 @@
-use Rattle.smbd_cli.proofs.Promising.{ends_at_once}
+use Rattle.smbd_cli.proofs.Turning.{ends_at_once}
 use Rattle.smbd_cli.proofs.Completing.{completes, copies}
 use Rattle.smbd_cli.specs.Promise.{stream_of}
 use Rattle.smbd_cli.proofs.copy.run_copy.Goals as goal

@@ -3,7 +3,7 @@ use Rattle.std.proofs.lemmas.List.{take_more}
 use Rattle.smbd_base.specs.declared.event.Event.{Event}
 use Rattle.smbd_cli.specs.Lines.{line_of, lines_from, next_number}
 use Rattle.smbd_cli.specs.LogText.{text_of}
-use Rattle.smbd_cli.proofs.LineLemmas.{number_after, number_after-snoc, text-snoc, next_number-le}
+use Rattle.smbd_cli.proofs.LineLemmas.{number_after-snoc, text-snoc, next_number-le}
 use Rattle.smbd_cli.proofs.lines.add_lines.Goals as goal
 
 pub loop-event-preserved : goal.loop-event-preserved
@@ -15,13 +15,13 @@ loop-event-preserved c =
     take_more events c.loop-event.event-index e (omega arith) ∙ ap (λ (x : Event). front ++ x ∷ []) (sym c.event-item.is) in
     let inv = c.loop-event.invariant in
     let start = string_bytes c.args.text.now in
-    let so_far = text_of (lines_from c.args.side 1 front) in
+    let so_far = text_of (lines_from c.args.side c.args.first front) in
     let line = line_of c.args.side c.loop-event.number e in
-    let text : string_bytes c.add_line.new.text ≡ start ++ text_of (lines_from c.args.side 1 (front ++ e ∷ [])) =
+    let text : string_bytes c.add_line.new.text ≡ start ++ text_of (lines_from c.args.side c.args.first (front ++ e ∷ [])) =
     c.in_ok-add_line.ensures ∙ ap (λ (t : List ℕ). t ++ line) inv.0 ∙ append_assoc start so_far line
-    ∙ ap (λ (t : List ℕ). start ++ t) (ap (λ (n : ℕ). so_far ++ line_of c.args.side n e) inv.1 ∙ sym (text-snoc c.args.side 1 front e)) in
+    ∙ ap (λ (t : List ℕ). start ++ t) (ap (λ (n : ℕ). so_far ++ line_of c.args.side n e) inv.1 ∙ sym (text-snoc c.args.side c.args.first front e)) in
     rw more (
       text,
-      c.next_number-number.ensures ∙ ap (λ (n : ℕ). next_number n e) inv.1 ∙ sym (number_after-snoc 1 front e),
-      omega (arith, c.next_number-number.ensures, next_number-le c.loop-event.number (c.loop-event.event-index + 1) e inv.2),
+      c.next_number-number.ensures ∙ ap (λ (n : ℕ). next_number n e) inv.1 ∙ sym (number_after-snoc c.args.first front e),
+      omega (arith, c.next_number-number.ensures, next_number-le c.loop-event.number (c.loop-event.event-index + c.args.first) e inv.2),
     )

@@ -1,13 +1,29 @@
-use Rattle.std.proofs.Common.{◌≡◌, ℕ, List, sym, ap, ◌∙◌, subst}
-use Rattle.smbd_cli.specs.FileMessages.{reply_for}
-use Rattle.smbd_cli.specs.Put.{HasCalled}
-use Rattle.smbd_cli.proofs.Calling.{called}
+use Rattle.std.proofs.Common.{arith}
+use Rattle.smbd_cli.proofs.Resting.{asked, whole, short, replies, called}
 use Rattle.smbd_cli.proofs.put.call.Goals as goal
 
-pub returns-clause-called : goal.returns-clause-called
-returns-clause-called c =
-    let reply_is = c.in_ok-reply.ensures ∙ ap reply_for c.in_ok-came.ensures.delivered in
-    subst (λ (r : List ℕ). HasCalled c.args.client.now c.args.server.now c.exchange-2.new.to c.exchange-2.new.from c.args.request r) reply_is
-    (called c.args.client.now c.args.server.now c.exchange.new.from c.exchange.new.to c.exchange-2.new.to c.exchange-2.new.from c.args.request c.in_ok-reply.reply
-    c.requires.pair c.in_ok-came.ensures.from c.in_ok-came.ensures.to c.in_ok-came.ensures.ends
-    c.in_ok-exchange.ensures.from c.in_ok-exchange.ensures.to c.in_ok-exchange.ensures.ends)
+pub answer-requires-clause-whole : goal.answer-requires-clause-whole
+answer-requires-clause-whole c =
+    whole c.args.client.now c.args.server.now c.send.new.from c.send.new.to c.in_ok-request.request
+    (asked _ _ _ _ _ c.requires.pair c.in_ok-request.ensures.from c.in_ok-request.ensures.to c.in_ok-request.ensures.sent)
+
+pub answer-requires-clause-short : goal.answer-requires-clause-short
+answer-requires-clause-short c =
+    let few = short c.args.client.now c.args.server.now c.send.new.from c.send.new.to c.in_ok-request.request
+    (asked _ _ _ _ _ c.requires.pair c.in_ok-request.ensures.from c.in_ok-request.ensures.to c.in_ok-request.ensures.sent) in
+    omega (arith, few)
+
+pub send-requires-2-clause-can : goal.send-requires-2-clause-can
+send-requires-2-clause-can c =
+    let a = asked c.args.client.now c.args.server.now c.send.new.from c.send.new.to c.in_ok-request.request
+    c.requires.pair c.in_ok-request.ensures.from c.in_ok-request.ensures.to c.in_ok-request.ensures.sent in
+    replies c.args.client.now c.args.server.now c.send.new.from c.send.new.to c.submit.new.end c.in_ok-request.request c.in_ok-answer.field-0 a
+    c.in_ok-answer.ensures c.in_ok-submit.ensures
+
+pub returns : goal.returns
+returns c =
+    let a = asked c.args.client.now c.args.server.now c.send.new.from c.send.new.to c.in_ok-request.request
+    c.requires.pair c.in_ok-request.ensures.from c.in_ok-request.ensures.to c.in_ok-request.ensures.sent in
+    called c.args.client.now c.args.server.now c.send.new.from c.send.new.to c.submit.new.end c.send-2.new.to c.send-2.new.from
+    c.in_ok-request.request c.in_ok-answer.field-0 c.in_ok-send.field-0 a c.in_ok-answer.ensures c.in_ok-submit.ensures
+    c.in_ok-send.ensures.from c.in_ok-send.ensures.to c.in_ok-send.ensures.sent

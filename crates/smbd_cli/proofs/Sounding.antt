@@ -1,0 +1,142 @@
+-- What was said between two ends is a sound course of a copy.
+use Rattle.std.proofs.Common.{◌≡◌, ℕ, ◌+◌, ◌-◌, ◌*◌, ◌/◌, ◌≤◌, Bool, true, false, List, [], ◌++◌, length, take, drop, map, refl, sym, ap, ◌∙◌, append_assoc, length-append, lit<, arith}
+use Rattle.std.specs.List.{flat_map}
+use Rattle.std.proofs.lemmas.List.{append-nil, take-append-drop, length-map, map-append, take-append-le, take_all}
+use Rattle.std.proofs.lemmas.Nat.{div-mul-add, le-div}
+use Rattle.std.proofs.Math.Nat.{div-mul-le_self}
+use Rattle.std.proofs.Math.Seq.{take-append-add}
+use mathlib.Core.List.{IsPrefix}
+use Rattle.smbd_base.specs.declared.end_id.EndId.TheVariants.{Client, Server}
+use Rattle.smbd_base.specs.declared.event.Event.{Event}
+use Rattle.smbd_base.specs.Limits.{usual_limits}
+use Rattle.smbd_base.specs.History.{messages_submitted}
+use Rattle.smbd_base.specs.Delivery.{messages_delivered}
+use Rattle.smbd_cli.specs.Progress.{HasSaid}
+use Rattle.smbd_cli.specs.Promise.{IsSound, usable}
+use Rattle.smbd_cli.specs.PutRun.{Group, groups, groups_from, groups_count, write_of, reply_of, last_request, last_reply, put_requests, put_replies}
+use Rattle.smbd_cli.proofs.Groups.{groups_more, groups_join, length-groups}
+
+pub prefix_of-equal : {A : Type 0} (xs ys : List A) → xs ≡ ys → IsPrefix xs ys
+prefix_of-equal xs ys e = ([], append-nil xs ∙ e)
+
+prefix_trans : {A : Type 0} (xs ys zs : List A) → IsPrefix xs ys → IsPrefix ys zs → IsPrefix xs zs
+prefix_trans {A = A} xs ys zs p q = (p.0 ++ q.0, sym (append_assoc xs p.0 q.0) ∙ ap (λ (l : List A). l ++ q.0) p.1 ∙ q.1)
+
+prefix_length : {A : Type 0} (xs ys : List A) → IsPrefix xs ys → length xs ≤ length ys
+prefix_length xs ys p = omega (arith, ap length p.1, length-append xs p.0)
+
+-- ---- requests and replies of the first groups
+
+same_length : (ended : Bool) (bytes : List ℕ) → length (put_replies ended bytes) ≡ length (put_requests ended bytes)
+same_length true bytes =
+    length-append (map reply_of (groups bytes)) (last_reply true bytes)
+    ∙ ap (λ (n : ℕ). n + 1) (length-map (groups bytes) reply_of ∙ sym (length-map (groups bytes) write_of))
+    ∙ sym (length-append (map write_of (groups bytes)) (last_request true bytes))
+same_length false bytes =
+    length-append (map reply_of (groups bytes)) []
+    ∙ ap (λ (n : ℕ). n + 0) (length-map (groups bytes) reply_of ∙ sym (length-map (groups bytes) write_of))
+    ∙ sym (length-append (map write_of (groups bytes)) [])
+
+first_of : {A : Type 0} (f : Group → A) (gs : List Group) (n : ℕ) (last : List A) → IsPrefix (map f (take n gs)) (map f gs ++ last)
+first_of {A = A} f gs n last = (
+  map f (drop n gs) ++ last,
+  sym (append_assoc (map f (take n gs)) (map f (drop n gs)) last)
+      ∙ ap (λ (ms : List A). ms ++ last) (sym (map-append f (take n gs) (drop n gs)) ∙ ap (map f) (take-append-drop n gs)),
+)
+
+map_front : {A : Type 0} (f : Group → A) (gs more : List Group) (last : List A) → IsPrefix (map f gs ++ []) (map f (gs ++ more) ++ last)
+map_front {A = A} f gs more last = (
+  map f more ++ last,
+  ap (λ (ms : List A). ms ++ (map f more ++ last)) (append-nil (map f gs))
+      ∙ sym (append_assoc (map f gs) (map f more) last) ∙ ap (λ (ms : List A). ms ++ last) (sym (map-append f gs more)),
+)
+
+-- the bytes of which requests can be made go on from whole groups
+record GoesOnFrom (said usable_bytes : List ℕ) : Type 0 where
+  more : List ℕ
+  is : usable_bytes ≡ said ++ more
+
+whole_front : (k n : ℕ) → k * 65536 ≤ n → k * 65536 ≤ n / 65536 * 65536
+whole_front k n le = let most = le-div k n 65536 (lit< tt) le in omega (arith, most)
+
+take_past : (n : ℕ) (xs ys : List ℕ) → length xs ≤ n → take n (xs ++ ys) ≡ xs ++ take (n - length xs) ys
+take_past n xs ys le =
+    let is : n ≡ length xs + (n - length xs) = omega arith in
+    ap (λ (m : ℕ). take m (xs ++ ys)) is ∙ take-append-add xs ys (n - length xs)
+
+usable_more : (k : ℕ) (ended : Bool) (said more : List ℕ) → length said ≡ k * 65536 → GoesOnFrom said (usable ended (said ++ more))
+usable_more k true said more e = record { more = more; is = refl }
+usable_more k false said more e =
+    let count = length (said ++ more) / 65536 * 65536 in
+    let long : length said ≤ count =
+    omega (arith, e, whole_front k (length (said ++ more)) (omega (arith, e, length-append said more))) in
+    record { more = take (count - length said) more; is = take_past count said more long }
+
+-- ---- what was said of what was read
+
+-- the requests for these bytes and their replies are the first of those for the bytes that were read
+pub record IsSaidOf (said_ended : Bool) (said : List ℕ) (ended : Bool) (bytes : List ℕ) : Type 0 where
+  pub requests : IsPrefix (put_requests said_ended said) (put_requests ended (usable ended bytes))
+  pub replies : IsPrefix (put_replies said_ended said) (put_replies ended (usable ended bytes))
+  pub front : IsPrefix said bytes
+  pub first : (n : ℕ) → n ≤ groups_count said → IsPrefix (map write_of (take n (groups bytes))) (put_requests said_ended said)
+  pub stored : (n : ℕ) × (said ≡ flat_map (λ (g : Group). g.bytes) (take n (groups (usable ended bytes))))
+
+-- all of them, where the end was seen
+pub said_whole : (bytes : List ℕ) → IsSaidOf true bytes true bytes
+said_whole bytes = record {
+  requests = prefix_of-equal _ _ refl;
+  replies = prefix_of-equal _ _ refl;
+  front = prefix_of-equal _ _ refl;
+  first = λ n le. first_of write_of (groups bytes) n (last_request true bytes);
+  stored = (
+    groups_count bytes,
+    sym (groups_join bytes) ∙ ap (λ (gs : List Group). flat_map (λ (g : Group). g.bytes) gs)
+        (sym (take_all (groups_count bytes) (groups bytes) (omega (arith, length-groups bytes)))),
+  );
+}
+
+count_of : (k : ℕ) (bytes : List ℕ) → length bytes ≡ k * 65536 → groups_count bytes ≡ k
+count_of k bytes e = rw e (div-mul-add k 65536 65535 (omega arith))
+
+-- or whole groups
+pub said_groups : (k : ℕ) (ended : Bool) (said more : List ℕ) → length said ≡ k * 65536 → IsSaidOf false said ended (said ++ more)
+said_groups k ended said more e =
+    let u = usable_more k ended said more e in
+    let gs : groups (usable ended (said ++ more)) ≡ groups said ++ groups_from (groups_count u.more) (k + 1) (length said) u.more =
+    ap groups u.is ∙ groups_more k said u.more e in
+    let all : groups (said ++ more) ≡ groups said ++ groups_from (groups_count more) (k + 1) (length said) more = groups_more k said more e in
+    let first_ones : take (groups_count said) (groups (usable ended (said ++ more))) ≡ groups said =
+    ap (λ (g : List Group). take (groups_count said) g) gs
+    ∙ take-append-le (groups_count said) (groups said) (groups_from (groups_count u.more) (k + 1) (length said) u.more) (omega (arith, length-groups said))
+    ∙ take_all (groups_count said) (groups said) (omega (arith, length-groups said)) in
+    record {
+      requests = rw gs (map_front write_of (groups said) (groups_from (groups_count u.more) (k + 1) (length said) u.more) (last_request ended (usable ended (said ++ more))));
+      replies = rw gs (map_front reply_of (groups said) (groups_from (groups_count u.more) (k + 1) (length said) u.more) (last_reply ended (usable ended (said ++ more))));
+      front = (more, refl);
+      first = λ n le. (let short : n ≤ length (groups said) = omega (arith, le, length-groups said) in
+          rw (all, take-append-le n (groups said) (groups_from (groups_count more) (k + 1) (length said) more) short) (first_of write_of (groups said) n []));
+      stored = (groups_count said, sym (groups_join said) ∙ ap (λ (g : List Group). flat_map (λ (g : Group). g.bytes) g) (sym first_ones));
+    }
+
+-- ---- a sound course
+
+count_most : (xs ys : List ℕ) → length xs ≤ length ys → groups_count xs ≤ groups_count ys
+count_most xs ys le =
+    let back = div-mul-le_self (length xs + 65535) 65536 in
+    le-div ((length xs + 65535) / 65536) (length ys + 65535) 65536 (lit< tt) (omega (arith, le, back))
+
+pub sound_of : (c s : List Event) (said_ended ended : Bool) (said bytes stored text : List ℕ) → HasSaid c s said_ended said → IsSaidOf said_ended said ended bytes → IsPrefix stored said
+    → IsSound (record { client = c; server = s; bytes = bytes; ended = ended; stored = stored; text = text })
+sound_of c s said_ended ended said bytes stored text h o stores = record {
+  joint = h.joint;
+  to_server = prefix_of-equal (messages_delivered Server usual_limits s) (messages_submitted c) h.to_server;
+  to_client = prefix_of-equal (messages_delivered Client usual_limits c) (messages_submitted s) h.to_client;
+  put = record {
+    requests = rw h.requests o.requests;
+    replies = rw h.replies o.replies;
+    answered = omega (arith, ap length h.replies, same_length said_ended said, ap length h.to_server, ap length h.requests);
+    stores = prefix_trans stored said bytes stores o.front;
+    brought = rw (h.to_server, h.requests) (o.first (groups_count stored) (count_most stored said (prefix_length stored said stores)));
+  };
+}

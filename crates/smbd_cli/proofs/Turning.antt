@@ -1,0 +1,248 @@
+-- From one turn of a copy to the next.
+use Rattle.std.proofs.Common.{◌≡◌, inl, inr, ℕ, ◌+◌, ◌≤◌, Bool, true, false, Option, List, [], ◌∷◌, ◌++◌, length, map, reverse, refl, sym, ap, ◌∙◌, subst, length-append, lit≤, arith}
+use Rattle.std.proofs.lemmas.List.{append-nil, reverse-reverse}
+use Rattle.std.proofs.KnownBytes.{Consumes-nil, Appends-nil, Consumes-trans}
+use Rattle.std.specs.Io.KnownBytes.{Appends, Consumes, IsAtEnd}
+use Rattle.smbd_base.specs.declared.end_id.EndId.{EndId}
+use Rattle.smbd_base.specs.declared.end_id.EndId.TheVariants.{Client, Server}
+use Rattle.smbd_base.specs.declared.event.Event.{Event}
+use Rattle.smbd_base.specs.declared.event.Event.TheVariants.{Post, Submit, Emit, Take, Cut}
+use Rattle.smbd_base.specs.Limits.{usual_limits}
+use Rattle.smbd_base.specs.History.{next_event, IsLegal}
+use mathlib.Core.List.{IsPrefix}
+use Rattle.smbd_cli.specs.PutRun.{groups}
+use Rattle.smbd_base.specs.Negotiation.{request_text, response_text}
+use Rattle.smbd_base.specs.Joint.{taken_frames, emitted_frames}
+use Rattle.smbd_outside.specs.declared.status.Status.{Status}
+use Rattle.smbd_outside.specs.declared.status.Status.TheVariants.{Done, NoMemory}
+use Rattle.smbd_outside.specs.Streams.{AppendsFront}
+use Rattle.connection_core.specs.Shown.{Shown}
+use Rattle.smbd_cli.specs.declared.telling.Told.{Told}
+use Rattle.smbd_cli.specs.Carried.{opened, with_past, agreed_client, agreed_server}
+use Rattle.smbd_cli.specs.FileMessages.{reply_for}
+use Rattle.smbd_cli.specs.Lines.{line_of, take_count}
+use Rattle.smbd_cli.specs.LogText.{lines_at, lines_of_ends, IsLog}
+use Rattle.smbd_cli.specs.Progress.{moved, HasSaid, all_told, IsBetween, IsBeforeTurn, IsAfterTurn, StopsReading}
+use Rattle.smbd_cli.specs.Promise.{Stream, KeepsPromise}
+use Rattle.smbd_cli.specs.Put.{HasPut}
+use Rattle.smbd_cli.specs.Settled.{GoesOn}
+use Rattle.smbd_cli.specs.Telling.{new_text, told_after}
+use Rattle.smbd_cli.proofs.Groups.{replies_are}
+use Rattle.smbd_cli.proofs.Promising.{StopsTelling, stops_reading, stops_done}
+use Rattle.smbd_cli.proofs.Sounding.{prefix_of-equal, said_groups, sound_of}
+
+-- what went over between two ends at rest
+pub said_of : (client server : Shown) (ended : Bool) (bytes : List ℕ) → HasPut client server ended bytes → length bytes ≤ 16777216 → HasSaid client.past server.past ended bytes
+said_of client server ended bytes p short =
+    let rest = p.pair.rest in
+    record {
+      joint = record {
+        client_legal = rest.pair.from_end.settled.legal;
+        server_legal = rest.pair.to_end.settled.legal;
+        client_accepted = rest.pair.from_end.accepted;
+        server_accepted = rest.pair.to_end.accepted;
+        to_client = prefix_of-equal (taken_frames client.past) (emitted_frames server.past) rest.pair.from_end.frames;
+        to_server = prefix_of-equal (taken_frames server.past) (emitted_frames client.past) rest.pair.to_end.frames;
+      };
+      requests = p.requests;
+      replies = rest.replied ∙ ap (map reply_for) (p.caught_up ∙ p.requests) ∙ replies_are ended bytes short;
+      to_server = p.caught_up;
+      to_client = rest.answered;
+    }
+
+-- ---- before anything was sent
+
+abbrev pub opening : List Event
+opening = Post 255 ∷ []
+
+-- nothing was told
+abbrev pub untold : Told
+untold = record { events = 0; next = 1 }
+
+abbrev pub opening_text : List ℕ
+opening_text = new_text untold untold opening opening
+
+legal_opening : (side : EndId) → IsLegal side usual_limits opening
+unfolding next_event
+legal_opening side = (refl, tt)
+
+said_opening : HasSaid opening opening false []
+unfolding groups next_event
+said_opening = record {
+  joint = record {
+    client_legal = legal_opening Client;
+    server_legal = legal_opening Server;
+    client_accepted = tt;
+    server_accepted = tt;
+    to_client = ([], refl);
+    to_server = ([], refl);
+  };
+  requests = refl;
+  replies = refl;
+  to_server = refl;
+  to_client = refl;
+}
+
+opening_log : IsLog opening opening opening_text
+opening_log =
+    let first = line_of Client 1 (Post 255) in
+    let second = line_of Server 1 (Post 255) in
+    record {
+      entries = (record { side = Client; line = first }) ∷ (record { side = Server; line = second }) ∷ [];
+      all = ap (λ (t : List ℕ). t ++ (second ++ [])) (append-nil first);
+      each = each;
+      first = first;
+      second = second;
+      later = [];
+      opening = refl;
+    } where
+      each : (side : EndId) → lines_at side ((record { side = Client; line = line_of Client 1 (Post 255) }) ∷ (record { side = Server; line = line_of Server 1 (Post 255) }) ∷ [])
+          ≡ lines_of_ends opening opening side
+      each Client = refl
+      each Server = refl
+
+-- the events of an end that was just opened
+opened_history : (end : Shown) (side : EndId) (history : List Event) → end ≡ opened side → reverse history ≡ end.past → history ≡ opening
+opened_history end side history is h = sym (reverse-reverse history) ∙ ap reverse (h ∙ ap (λ (e : Shown). e.past) is)
+
+-- a stream that nothing was asked of
+abbrev pub same : Option (List ℕ) → ℕ → Stream
+same known faults = record { before = known; now = known; faults_before = faults; faults = faults }
+
+-- the opening lines could not be written whole
+ends_opening : (source sink log log_now : Option (List ℕ)) (source_faults sink_faults log_faults log_faults_now : ℕ) (status : Status) (front : List ℕ)
+    → Appends log log_now front → IsPrefix front opening_text → StopsTelling status log_faults log_faults_now
+    → KeepsPromise status (same source source_faults) (same sink sink_faults) (moved (same log log_faults) log_now log_faults_now)
+ends_opening source sink log log_now source_faults sink_faults log_faults log_faults_now status front got begins (inl fault) =
+    let said = said_groups 0 false [] [] refl in
+    rw fault.0 (record {
+      course = record { client = opening; server = opening; bytes = []; ended = false; stored = []; text = front };
+      moves = record { read = Consumes-nil source; stored = Appends-nil sink; logged = got };
+      sound = sound_of opening opening false false [] [] [] front said_opening said (prefix_of-equal [] [] refl);
+      ends = (record { whole = opening_text; log = opening_log; begins = begins }, lit≤ tt, said.stored, fault.1);
+    })
+ends_opening source sink log log_now source_faults sink_faults log_faults log_faults_now status front got begins (inr memory) =
+    let said = said_groups 0 false [] [] refl in
+    rw memory (record {
+      course = record { client = opening; server = opening; bytes = []; ended = false; stored = []; text = front };
+      moves = record { read = Consumes-nil source; stored = Appends-nil sink; logged = got };
+      sound = sound_of opening opening false false [] [] [] front said_opening said (prefix_of-equal [] [] refl);
+      ends = (record { whole = opening_text; log = opening_log; begins = begins }, lit≤ tt, said.stored);
+    })
+
+-- no memory could be had before anything was read or written
+pub ends_at_once : (source sink log : Option (List ℕ)) (source_faults sink_faults log_faults : ℕ) → KeepsPromise NoMemory (same source source_faults) (same sink sink_faults) (same log log_faults)
+ends_at_once source sink log source_faults sink_faults log_faults =
+    ends_opening source sink log log source_faults sink_faults log_faults log_faults NoMemory [] (Appends-nil log) (opening_text, refl) (inr refl)
+
+-- what the first telling tells
+told_opening : (client server : Shown) (ce se : List Event) (ct st : Told) → client ≡ opened Client → server ≡ opened Server → reverse ce ≡ client.past → reverse se ≡ server.past
+    → ct ≡ untold → st ≡ untold → new_text ct st ce se ≡ opening_text
+told_opening client server ce se ct st c s c_is s_is ct_is st_is =
+    rw (ct_is, st_is, opened_history client Client ce c c_is, opened_history server Server se s s_is) refl
+
+pub stops_opening : (client server : Shown) (ce se : List Event) (ct st : Told) (source sink log log_now : Option (List ℕ)) (source_faults sink_faults log_faults log_faults_now : ℕ) (status : Status)
+    → client ≡ opened Client → server ≡ opened Server → reverse ce ≡ client.past → reverse se ≡ server.past → ct ≡ untold → st ≡ untold
+    → AppendsFront log log_now (new_text ct st ce se) → StopsTelling status log_faults log_faults_now
+    → KeepsPromise status (same source source_faults) (same sink sink_faults) (moved (same log log_faults) log_now log_faults_now)
+stops_opening client server ce se ct st source sink log log_now source_faults sink_faults log_faults log_faults_now status c s c_is s_is ct_is st_is front stops =
+    let is = told_opening client server ce se ct st c s c_is s_is ct_is st_is in
+    let f : AppendsFront log log_now opening_text = subst (λ (t : List ℕ). AppendsFront log log_now t) is front in
+    ends_opening source sink log log_now source_faults sink_faults log_faults log_faults_now status f.front f.got f.begins stops
+
+-- the opening lines were told
+pub between_opening : (client server : Shown) (ce se : List Event) (ct st ct_now st_now : Told) (source sink log log_now : Option (List ℕ)) (source_faults sink_faults log_faults log_faults_now : ℕ)
+    → client ≡ opened Client → server ≡ opened Server → reverse ce ≡ client.past → reverse se ≡ server.past → ct ≡ untold → st ≡ untold
+    → Appends log log_now (new_text ct st ce se) → ct_now ≡ told_after ct ce → st_now ≡ told_after st se → log_faults ≤ log_faults_now
+    → IsBetween (same source source_faults) (same sink sink_faults) (moved (same log log_faults) log_now log_faults_now) opening opening ct_now st_now false []
+between_opening client server ce se ct st ct_now st_now source sink log log_now source_faults sink_faults log_faults log_faults_now c s c_is s_is ct_is st_is logged ct_now_is st_now_is later =
+    record {
+      so_far = record {
+        said = said_opening;
+        text = opening_text;
+        is_log = opening_log;
+        logged = subst (λ (t : List ℕ). Appends log log_now t) (told_opening client server ce se ct st c s c_is s_is ct_is st_is) logged;
+        client_is = ct_now_is ∙ rw (ct_is, opened_history client Client ce c c_is) refl;
+        server_is = st_now_is ∙ rw (st_is, opened_history server Server se s s_is) refl;
+        stored = Appends-nil sink;
+      };
+      read = Consumes-nil source;
+      counted = record { reads = omega arith; writes = omega arith; logs = later };
+      short = lit≤ tt;
+      last = λ e. absurd (let b : ⊥ = cc in b);
+      turns = λ e. refl;
+    }
+
+-- ---- the next turn
+
+-- the bytes of the next turn were read
+pub next_turn : (source sink log : Stream) (c s : List Event) (client server : Shown) (ct st : Told) (bytes more : List ℕ) (ended : Bool) (source_now : Option (List ℕ)) (faults : ℕ)
+    → IsBetween source sink log c s ct st false bytes → GoesOn c client.past → GoesOn s server.past → HasPut client server false bytes
+    → Consumes source.now source_now more → source.faults ≤ faults → length bytes + length more ≤ 16777216 → (ended ≡ true → IsAtEnd source_now) → (ended ≡ false → length more ≡ 262144)
+    → IsBeforeTurn (moved source source_now faults) sink log client server ct st (length bytes) more ended
+next_turn source sink log c s client server ct st bytes more ended source_now faults b c_more s_more put read later short last whole = record {
+  earlier = bytes;
+  told_client = c;
+  told_server = s;
+  so_far = b.so_far;
+  client_more = c_more;
+  server_more = s_more;
+  put = put;
+  read = Consumes-trans source.before source.now source_now bytes more b.read read;
+  earlier_is = refl;
+  counted = record { reads = omega (arith, b.counted.reads, later); writes = b.counted.writes; logs = b.counted.logs };
+  short = short;
+  last = last;
+  groups = b.turns refl;
+  turns = whole;
+}
+
+-- the ends went on from their opening
+pub went_on : (client client_now : Shown) → client_now ≡ with_past client agreed_client → GoesOn opening client_now.past
+went_on client client_now is = (
+  Post 1 ∷ Take (response_text usual_limits) ∷ Emit (request_text usual_limits) ∷ [],
+  ap (λ (e : Shown). e.past) is,
+)
+
+pub went_on_server : (server server_now : Shown) → server_now ≡ with_past server agreed_server → GoesOn opening server_now.past
+went_on_server server server_now is = (
+  Emit (response_text usual_limits) ∷ Post 1 ∷ Take (request_text usual_limits) ∷ [],
+  ap (λ (e : Shown). e.past) is,
+)
+
+-- what was told stands in the past
+take_count-most : (past : List Event) → take_count past ≤ length past
+take_count-most [] = omega arith
+take_count-most (Post n ∷ past) = let le = take_count-most past in omega arith
+take_count-most (Submit m ∷ past) = let le = take_count-most past in omega arith
+take_count-most (Emit f ∷ past) = let le = take_count-most past in omega arith
+take_count-most (Take f ∷ past) = let le = take_count-most past in omega arith
+take_count-most (Cut ∷ past) = let le = take_count-most past in omega arith
+
+pub told_within : (past now : List Event) (told : Told) → told ≡ all_told past → GoesOn past now → (told.events ≤ length now) × (told.next ≤ told.events + 1)
+told_within past now told is more = rw is (omega (arith, ap length more.1, length-append more.0 past), omega (arith, take_count-most past))
+
+-- ---- after a turn
+
+-- the last one
+pub turned_done : (source sink log : Stream) (client server : Shown) (ct st : Told) (ended : Bool) (all : ℕ) → IsAfterTurn source sink log client server ct st ended all → ended ≡ true → KeepsPromise Done source sink log
+turned_done source sink log client server ct st ended all a last =
+    stops_done source sink log client.past server.past ct st a.bytes (subst (λ (e : Bool). IsBetween source sink log client.past server.past ct st e a.bytes) last a.so_far)
+
+-- or another follows
+pub turned : (source sink log : Stream) (client server : Shown) (ct st : Told) (ended : Bool) (all : ℕ) (more : List ℕ) (end : Bool) (source_now : Option (List ℕ)) (faults : ℕ)
+    → IsAfterTurn source sink log client server ct st ended all → ended ≡ false → Consumes source.now source_now more → source.faults ≤ faults → all + length more ≤ 16777216
+    → (end ≡ true → IsAtEnd source_now) → (end ≡ false → length more ≡ 262144) → IsBeforeTurn (moved source source_now faults) sink log client server ct st all more end
+turned source sink log client server ct st ended all more end source_now faults a going read later short last whole =
+    let b = subst (λ (e : Bool). IsBetween source sink log client.past server.past ct st e a.bytes) going a.so_far in
+    let put = subst (λ (e : Bool). HasPut client server e a.bytes) going a.put in
+    subst (λ (n : ℕ). IsBeforeTurn (moved source source_now faults) sink log client server ct st n more end) a.bytes_are
+    (next_turn source sink log client.past server.past client server ct st a.bytes more end source_now faults b ([], refl) ([], refl) put read later (omega (arith, short, a.bytes_are)) last whole)
+
+pub turned_reading : (source sink log : Stream) (client server : Shown) (ct st : Told) (ended : Bool) (all : ℕ) (more : List ℕ) (source_now : Option (List ℕ)) (faults : ℕ) (status : Status)
+    → IsAfterTurn source sink log client server ct st ended all → ended ≡ false → Consumes source.now source_now more → StopsReading status all (length more) source.faults faults
+    → KeepsPromise status (moved source source_now faults) sink log
+turned_reading source sink log client server ct st ended all more source_now faults status a going read stops =
+    let b = subst (λ (e : Bool). IsBetween source sink log client.past server.past ct st e a.bytes) going a.so_far in
+    stops_reading source sink log client.past server.past ct st a.bytes b more source_now faults status read
+    (subst (λ (n : ℕ). StopsReading status n (length more) source.faults faults) (sym a.bytes_are) stops)
