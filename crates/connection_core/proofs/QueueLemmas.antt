@@ -21,10 +21,7 @@ use Rattle.transfer_msg.specs.Written.{header_text}
 use Rattle.fragmenter.specs.Cut.{Cutting, pieces_left, next_place, piece_at, advanced}
 use Rattle.fragmenter.specs.declared.piece.Piece.{Piece as Place}
 use Rattle.connection_core.specs.Queue.{IsUnderWay, AreUnderWay, IsQueue, started, after_piece, waiting_after}
-use Rattle.connection_core.proofs.CutLemmas.{place_of, next_place-some, pieces_left-cons, pieces_left-none, piece_at-length}
-
-not_zero : (n : ℕ) → 0 < n → (n == 0) ≡ false
-not_zero n some = grind (arith, nat_tests)
+use Rattle.connection_core.proofs.CutLemmas.{place_of, not_zero, next_place-some, pieces_left-cons, pieces_left-none, piece_at-length}
 
 -- the piece that the first of some messages gives next
 abbrev pub next_piece : Cutting → Piece

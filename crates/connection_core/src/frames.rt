@@ -1,28 +1,26 @@
-//! The bytes of the frames that an end sends.
+//! The bytes of the frames that an end sends, and what it agrees with a peer of the same limits.
 
-ghost use Rattle.std.specs.Prelude.{◌≡◌, ◌+◌, ◌≤◌, ◌<◌, ◌++◌, length, take, drop, nat_eq, None, IfOk, OnOk, OnErr};
-ghost use Rattle.std.specs.Int.{w16, w32, to_le_bytes};
+ghost use Rattle.std.specs.Prelude.{◌≡◌, ◌≤◌, ◌++◌, nat_eq, None, Ok, IfOk, OnOk, OnErr};
 ghost use lib.Pointwise.{pointwise};
 ghost use Rattle.smbd_base.specs.History.{opening_frame, awaited_frame, data_fault, asks};
 ghost use Rattle.smbd_base.specs.DataFrame.{data_frame_of};
 ghost use Rattle.smbd_base.specs.History as spec;
+ghost use Rattle.smbd_base.specs.NegotiateMessages.{IsLawfulResponse, agreed_with_client, answer_to, read_request_of, request_of_limits};
 ghost use Rattle.smbd_base.specs.Negotiation.{request_text, response_text};
+ghost use Rattle.negotiate_msg.specs.Shown.{shown_response};
 ghost use Rattle.connection_core.specs.Gatherer.{gatherer_with, message_in};
 ghost use Rattle.transfer_msg.specs.Written.{header_text};
 
+use negotiate_msg::{
+    NegotiateResponse, answer, read_request, settle, write_request, write_response,
+};
 use reassembly::Gather;
-use smbd_base::{EndId, EndLimits, Frame, Message, NoMemory, TakeFault};
+use smbd_base::{Agreed, EndId, EndLimits, Frame, Message, NoMemory, TakeFault};
 use std::alloc::Global;
 use transfer_msg::{Header, read, write};
 
-/// The version of SMB Direct (MS-SMBD 2.2.1).
-const VERSION: u16 = 0x0100;
-
 /// The bytes before the payload of a data transfer message.
 const HEADER_SIZE: u32 = 24;
-
-/// The most bytes of one remote access (MaxReadWriteSize), of which an end of this project only tells its peer.
-pub const READ_WRITE_MAX: u32 = 1_048_576;
 
 /// The negotiation message with which an end opens.
 pub fn opening(alloc: Global, side: EndId, limits: &EndLimits) -> Result<Frame, NoMemory>
@@ -46,15 +44,11 @@ pub fn is_awaited(bytes: &[u8], side: EndId, limits: &EndLimits) -> bool
 
 /// The negotiate request of an end with these limits (MS-SMBD 2.2.1).
 fn request(limits: &EndLimits) -> [u8; 20]
-    ensures { result ≡ request_text limits.now }
+    ensures text { result ≡ request_text limits.now }
+    ensures read_back { read_request_of result ≡ Ok (request_of_limits limits.now) }
 {
     let mut out = [0; 20];
-    put_u16(&mut out, 0, VERSION);
-    put_u16(&mut out, 2, VERSION);
-    put_u16(&mut out, 6, limits.credits());
-    put_u32(&mut out, 8, limits.send_size());
-    put_u32(&mut out, 12, limits.receive_size());
-    put_u32(&mut out, 16, limits.fragmented_size());
+    write_request(limits, &mut out);
     out
 }
 
@@ -63,30 +57,37 @@ fn response(limits: &EndLimits) -> [u8; 32]
     ensures { result ≡ response_text limits.now }
 {
     let mut out = [0; 32];
-    put_u16(&mut out, 0, VERSION);
-    put_u16(&mut out, 2, VERSION);
-    put_u16(&mut out, 4, VERSION);
-    put_u16(&mut out, 8, limits.credits());
-    put_u16(&mut out, 10, limits.credits());
-    put_u32(&mut out, 16, READ_WRITE_MAX);
-    put_u32(&mut out, 20, limits.send_size().min(limits.receive_size()));
-    put_u32(&mut out, 24, limits.receive_size());
-    put_u32(&mut out, 28, limits.fragmented_size());
+    write_response(&answered(limits).0, &mut out);
     out
 }
 
-fn put_u16(out: &mut [u8], at: usize, number: u16)
-    requires { at + 2 ≤ length out.old }
-    ensures { out.new ≡ take at out.old ++ (to_le_bytes w16 number ++ drop (at + 2) out.old) }
+/// How an end with these limits answers a peer with the same, all of whose credits can be granted, and what it has then
+/// agreed (MS-SMBD 3.1.5.6).
+fn answered(limits: &EndLimits) -> (NegotiateResponse, Agreed)
+    ensures response { shown_response result.0 ≡ answer_to (request_of_limits limits.now) limits.now limits.now.credits }
+    ensures agreed { result.1 ≡ agreed_with_client limits.now (request_of_limits limits.now) }
+    ensures accepted { IsLawfulResponse limits.now (shown_response result.0) }
 {
-    out[at..at + 2].copy_from_slice(&number.to_le_bytes());
+    let Ok(request) = read_request(&request(limits)) else {
+        unreachable!()
+    };
+    answer(&request, limits, limits.credits())
 }
 
-fn put_u32(out: &mut [u8], at: usize, number: u32)
-    requires { at + 4 ≤ length out.old }
-    ensures { out.new ≡ take at out.old ++ (to_le_bytes w32 number ++ drop (at + 4) out.old) }
+/// What an end with these limits agrees with a peer of the same.
+pub fn agreed(side: EndId, limits: &EndLimits) -> Agreed
+    ensures { result ≡ record {
+      send_size = spec.send_size limits.now;
+      message_max = limits.now.fragmented_size;
+      read_write_max = spec.read_write_max side;
+      credits_requested = limits.now.credits;
+    } }
 {
-    out[at..at + 4].copy_from_slice(&number.to_le_bytes());
+    let (response, with_client) = answered(limits);
+    match side {
+        EndId::Client => settle(&response, limits),
+        EndId::Server => with_client,
+    }
 }
 
 /// A data transfer message with this payload, which the header describes.
@@ -102,7 +103,7 @@ pub fn data_frame(alloc: Global, header: &Header, payload: &[u8]) -> Result<Fram
 }
 
 /// The longest frame that an end with these limits sends, in bytes.
-pub fn send_size(limits: &EndLimits) -> u32
+fn send_size(limits: &EndLimits) -> u32
     ensures size { result ≡ spec.send_size limits.now }
     ensures least { 128 ≤ result }
     ensures most { result ≤ 8192 }

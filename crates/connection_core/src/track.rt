@@ -174,15 +174,7 @@ impl Track {
         if !self.is_agreed() {
             return None;
         }
-        Some(Agreed {
-            send_size: frames::send_size(&self.limits),
-            message_max: self.limits.fragmented_size(),
-            read_write_max: match self.side {
-                EndId::Client => Some(frames::READ_WRITE_MAX),
-                EndId::Server => None,
-            },
-            credits_requested: self.limits.credits(),
-        })
+        Some(frames::agreed(self.side, &self.limits))
     }
 
     /// Why a message is refused, if it is.
