@@ -59,7 +59,7 @@ pub record HasSent (other : EndId) (from to : List Event) : Type 0 where
   pub pieces : pieces_sent from ≡ length (pieces_of_all (messages_delivered other usual_limits to))
   pub fits : AllFitPut (messages_submitted from)
 
--- an end has a message to send, and the credits for its pieces
+-- an end has a message to send, and more credits than the message has pieces: 65,560 bytes are 49 pieces of 1,340
 pub record CanSend (side other : EndId) (from to : List Event) : Type 0 where
   pub pair : AreBeside side other from to
   pub sent : HasSent other from to
