@@ -1,6 +1,5 @@
 -- What a taken frame does to the gatherer.
-use Rattle.std.proofs.Common.{◌≡◌, ℕ, ◌==◌, nat_lt, nat_eq, Bool, true, false, not, ◌&&◌, cond, List, ◌∷◌, length, Option, Some, None, is_none, Result, Ok, Err, refl, sym, ap, ◌∙◌}
-use lib.Pointwise.{pointwise}
+use Rattle.std.proofs.Common.{◌≡◌, ℕ, ◌==◌, nat_lt, Bool, true, false, not, ◌&&◌, cond, List, ◌∷◌, length, Option, Some, None, is_none, Result, Ok, Err, refl, sym, ap, ◌∙◌}
 use Rattle.smbd_base.specs.declared.end_id.EndId.{EndId}
 use Rattle.smbd_base.specs.declared.event.Event.{Event}
 use Rattle.smbd_base.specs.declared.event.Event.TheVariants.{Take}
@@ -11,26 +10,26 @@ use Rattle.smbd_base.specs.Limits.{Limits}
 use Rattle.smbd_base.specs.DataFrame.{DataFrame, data_frame_of}
 use Rattle.smbd_base.specs.Pieces.{Gathered}
 use Rattle.smbd_base.specs.Counts.{is_unheard, is_out_of_turn}
-use Rattle.smbd_base.specs.History.{take_fault, fault_expecting, data_fault, awaited_frame, bytes_expected, expected_after}
+use Rattle.smbd_base.specs.History.{take_fault, fault_expecting, data_fault, negotiate_fault, negotiation_fault, bytes_expected, expected_after}
 use Rattle.smbd_base.specs.Delivery.{gather, gathered, message_brought, message_ended, piece_in}
 use Rattle.reassembly.specs.Gathering.{Gathering}
 use Rattle.connection_core.specs.Gatherer.{gatherer_of, gatherer_with, message_in}
 
 -- the last test of a frame
-last_test : (turn long unheard fixed : Bool) (over : TakeFault) (later : Option TakeFault)
-    → cond turn (Some faults.OutOfTurn) (cond long (Some over) (cond unheard (cond fixed None (Some faults.NotFixed)) later)) ≡ None → unheard ≡ false → later ≡ None
-last_test true long unheard fixed over later e heard = absurd cc
-last_test false true unheard fixed over later e heard = absurd cc
-last_test false false true fixed over later e heard = absurd cc
-last_test false false false fixed over later e heard = e
+last_test : (turn long unheard : Bool) (over : TakeFault) (first later : Option TakeFault)
+    → cond turn (Some faults.OutOfTurn) (cond long (Some over) (cond unheard first later)) ≡ None → unheard ≡ false → later ≡ None
+last_test true long unheard over first later e heard = absurd cc
+last_test false true unheard over first later e heard = absurd cc
+last_test false false true over first later e heard = absurd cc
+last_test false false false over first later e heard = e
 
 -- a later frame that is not refused fits what the gatherer expects
 pub accepted_data : (side : EndId) (limits : Limits) (past : List Event) (frame : List ℕ) → take_fault side limits past frame ≡ None → is_unheard past ≡ false
     → data_fault limits.fragmented_size (bytes_expected side limits past) (data_frame_of frame) ≡ None
 unfolding take_fault fault_expecting
 accepted_data side limits past frame e heard =
-    last_test (is_out_of_turn side past) (nat_lt limits.receive_size (length frame)) (is_unheard past) (pointwise nat_eq frame (awaited_frame side limits))
-    (faults.Oversize (length frame) limits.receive_size) (data_fault limits.fragmented_size (bytes_expected side limits past) (data_frame_of frame)) e heard
+    last_test (is_out_of_turn side past) (nat_lt limits.receive_size (length frame)) (is_unheard past)
+    (faults.Oversize (length frame) limits.receive_size) (negotiate_fault (negotiation_fault side limits frame)) (data_fault limits.fragmented_size (bytes_expected side limits past) (data_frame_of frame)) e heard
 
 -- a gatherer that has not failed
 abbrev standing : ℕ → ℕ → Gathered → Gathering

@@ -1,26 +1,22 @@
 -- What an end keeps after one event more.
-use Rattle.std.proofs.Common.{◌≡◌, inl, inr, ℕ, ◌-◌, ◌<◌, ◌≤◌, ◌==◌, nat_lt, Bool, true, false, not, cond, List, [], ◌∷◌, ◌++◌, length, Option, Some, None, refl, sym, ap, ◌∙◌, subst, arith}
-use Rattle.std.proofs.lemmas.Bool.Decides.{nat_tests}
-use Rattle.smbd_base.specs.declared.end_id.EndId.{EndId}
+use Rattle.std.proofs.Common.{◌≡◌, inl, inr, ℕ, ◌-◌, ◌≤◌, true, List, ◌∷◌, Option, Some, None, refl, sym, ap, ◌∙◌, subst, arith}
 use Rattle.smbd_base.specs.declared.event.Event.{Event}
 use Rattle.smbd_base.specs.declared.event.Event.TheVariants.{Post, Submit, Emit, Take}
 use Rattle.smbd_base.specs.declared.next.Next.{Next}
 use Rattle.smbd_base.specs.declared.next.Next.TheVariants as due
-use Rattle.smbd_base.specs.declared.faults.SubmitFault.TheVariants as refusals
 use Rattle.smbd_base.specs.declared.faults.TakeFault.{TakeFault}
-use Rattle.smbd_base.specs.Limits.{Limits, IsLawful}
 use Rattle.smbd_base.specs.Counts.{is_silent}
-use Rattle.smbd_base.specs.History.{next_event, due_event, submit_fault, take_fault, is_ready, message_limit, payload_size, is_open, is_agreed}
+use Rattle.smbd_base.specs.History.{next_event, due_event, submit_fault, take_fault, is_ready, agreed_of}
 use Rattle.smbd_base.proofs.BalanceLemmas.{balanced}
 use Rattle.smbd_base.proofs.Inversion.{emits, posts}
 use Rattle.connection_core.specs.Holds.{Holds, room_for}
-use Rattle.fragmenter.specs.Cut.{Cutting}
 use Rattle.reassembly.specs.Gathering.{Gathering}
-use Rattle.connection_core.specs.Queue.{started, waiting_after}
+use Rattle.connection_core.specs.Gatherer.{gatherer_of}
+use Rattle.connection_core.specs.Queue.{Queued, IsSendable, with_message, begun_by, sent_from}
 use Rattle.connection_core.specs.Shown.{Shown}
 use Rattle.connection_core.specs.Tracked.{Tracked}
 use Rattle.connection_core.proofs.GatherLemmas.{gatherer-refused}
-use Rattle.connection_core.proofs.QueueLemmas.{IsQueue-submit, IsQueue-emit}
+use Rattle.connection_core.proofs.QueueLemmas.{Queues-begun, Queues-refused, Stands-submit, Stands-emit, Stands-take}
 
 -- nothing is there
 pub none_of : {A : Type 0} (o : Option A) → ((x : A) → o ≡ Some x → ⊥) → o ≡ None
@@ -41,114 +37,117 @@ emit_due_of (due.Emit g) f e = cc
 emit_due_of due.Close f e = absurd cc
 emit_due_of due.Idle f e = absurd cc
 
-held_is : (t : Tracked) (cuts : List Cutting) (g : Gathering) (prepared : Option Event) (e : Event) → Holds t cuts g prepared → prepared ≡ Some e → Some e ≡ due_event (next_event t.side t.limits t.past)
-held_is t cuts g prepared e h is = sym is ∙ h.next (rw is refl)
+held_is : (t : Tracked) (q : Queued) (g : Gathering) (prepared : Option Event) (e : Event) → Holds t q g prepared → prepared ≡ Some e → Some e ≡ due_event (next_event t.side t.limits t.past)
+held_is t q g prepared e h is = sym is ∙ h.next (rw is refl)
 
-pub post_due : (t : Tracked) (cuts : List Cutting) (g : Gathering) (prepared : Option Event) (n : ℕ) → Holds t cuts g prepared → prepared ≡ Some (Post n)
+pub post_due : (t : Tracked) (q : Queued) (g : Gathering) (prepared : Option Event) (n : ℕ) → Holds t q g prepared → prepared ≡ Some (Post n)
     → (next_event t.side t.limits t.past ≡ due.Post 1) × (n ≡ 1)
-post_due t cuts g prepared n h is =
-    let due_n = post_due_of (next_event t.side t.limits t.past) n (held_is t cuts g prepared (Post n) h is) in
+post_due t q g prepared n h is =
+    let due_n = post_due_of (next_event t.side t.limits t.past) n (held_is t q g prepared (Post n) h is) in
     let p = posts t.side t.limits t.past n due_n in
     elim p.1 as (λ _. (next_event t.side t.limits t.past ≡ due.Post 1) × (n ≡ 1)) [
       | inl opening ↦ absurd (let new = opening.0 in let opened = h.opened in (let b : ⊥ = cc in b))
       | inr later ↦ (due_n ∙ ap (λ (k : ℕ). due.Post k) (sym later.3), sym later.3)
     ]
 
-pub emit_due : (t : Tracked) (cuts : List Cutting) (g : Gathering) (prepared : Option Event) (f : List ℕ) → Holds t cuts g prepared → prepared ≡ Some (Emit f)
+pub emit_due : (t : Tracked) (q : Queued) (g : Gathering) (prepared : Option Event) (f : List ℕ) → Holds t q g prepared → prepared ≡ Some (Emit f)
     → next_event t.side t.limits t.past ≡ due.Emit f
-emit_due t cuts g prepared f h is = emit_due_of (next_event t.side t.limits t.past) f (held_is t cuts g prepared (Emit f) h is)
+emit_due t q g prepared f h is = emit_due_of (next_event t.side t.limits t.past) f (held_is t q g prepared (Emit f) h is)
 
 -- there is room for a prepared Post
-pub post_room : (t : Tracked) (cuts : List Cutting) (g : Gathering) (prepared : Option Event) (n : ℕ) → Holds t cuts g prepared → prepared ≡ Some (Post n) → 2 ≤ t.room
-post_room t cuts g prepared n h is =
-    let d = post_due t cuts g prepared n h is in
+pub post_room : (t : Tracked) (q : Queued) (g : Gathering) (prepared : Option Event) (n : ℕ) → Holds t q g prepared → prepared ≡ Some (Post n) → 2 ≤ t.room
+post_room t q g prepared n h is =
+    let d = post_due t q g prepared n h is in
     let uncut = (posts t.side t.limits t.past 1 d.0).0 in
     subst (λ (o : Option Event). room_for o ≤ t.room) is (h.room uncut)
 
-pub emit_room : (t : Tracked) (cuts : List Cutting) (g : Gathering) (prepared : Option Event) (f : List ℕ) → Holds t cuts g prepared → prepared ≡ Some (Emit f) → 2 ≤ t.room
-emit_room t cuts g prepared f h is =
-    let e = emits t.side t.limits t.past f (emit_due t cuts g prepared f h is) in
+pub emit_room : (t : Tracked) (q : Queued) (g : Gathering) (prepared : Option Event) (f : List ℕ) → Holds t q g prepared → prepared ≡ Some (Emit f) → 2 ≤ t.room
+emit_room t q g prepared f h is =
+    let e = emits t.side t.limits t.past f (emit_due t q g prepared f h is) in
     subst (λ (o : Option Event). room_for o ≤ t.room) is (h.room e.going.cut)
 
 -- ---- one event more
 
-pub Holds-post : (t t' : Tracked) (cuts : List Cutting) (g : Gathering) (prepared after : Option Event) (n : ℕ) → Holds t cuts g prepared → prepared ≡ Some (Post n) → after ≡ None
-    → t' ≡ record t { past = Post 1 ∷ t.past; room = t.room - 1 } → Holds t' cuts g after
-Holds-post t t' cuts g prepared after n h is none t'_is =
-    let d = post_due t cuts g prepared n h is in
-    let room = post_room t cuts g prepared n h is in
+pub Holds-post : (t t' : Tracked) (q : Queued) (g : Gathering) (prepared after : Option Event) (n : ℕ) → Holds t q g prepared → prepared ≡ Some (Post n) → after ≡ None
+    → t' ≡ record t { past = Post 1 ∷ t.past; room = t.room - 1 } → Holds t' q g after
+Holds-post t t' q g prepared after n h is none t'_is =
+    let d = post_due t q g prepared n h is in
+    let room = post_room t q g prepared n h is in
     rw (t'_is, none) (record {
       lawful = h.lawful;
       opened = refl;
       legal = (d.0, h.legal);
-      queue = record { waiting = h.queue.waiting; sent = h.queue.sent; under_way = h.queue.under_way };
+      queue = record { waits = λ off. (let w = h.queue.waits off in record { begun = w.begun; behind = w.behind; sent = w.sent; sendable = w.sendable }); sends = λ on. (let s = h.queue.sends on in record { waiting = s.waiting; sent = s.sent; under_way = s.under_way }); begun = h.queue.begun };
       begun = h.begun;
       next = λ e. absurd cc;
       room = λ e. omega arith;
     })
 
-pub Holds-emit : (t t' : Tracked) (cuts cuts' : List Cutting) (g : Gathering) (prepared after : Option Event) (f : List ℕ) → Holds t cuts g prepared → prepared ≡ Some (Emit f) → after ≡ None
-    → cuts' ≡ waiting_after (is_silent t.past) cuts → t' ≡ record t { past = Emit f ∷ t.past; room = t.room - 1 } → Holds t' cuts' g after
-Holds-emit t t' cuts cuts' g prepared after f h is none cuts'_is t'_is =
-    let d = emit_due t cuts g prepared f h is in
-    let room = emit_room t cuts g prepared f h is in
-    rw (t'_is, none, cuts'_is) (record {
+pub Holds-emit : (t t' : Tracked) (q sent q' : Queued) (g : Gathering) (prepared after : Option Event) (f : List ℕ) → Holds t q g prepared → prepared ≡ Some (Emit f) → after ≡ None
+    → sent ≡ sent_from (is_silent t.past) q → q' ≡ begun_by (agreed_of t'.side t'.limits t'.past) sent → t' ≡ record t { past = Emit f ∷ t.past; room = t.room - 1 } → Holds t' q' g after
+Holds-emit t t' q sent q' g prepared after f h is none sent_is q'_is t'_is =
+    let d = emit_due t q g prepared f h is in
+    let room = emit_room t q g prepared f h is in
+    let stands = Stands-emit t.side t.limits t.past q f h.lawful (balanced t.side t.limits t.past h.lawful h.legal h.opened) h.queue d in
+    let begun : q' ≡ begun_by (agreed_of t.side t.limits (Emit f ∷ t.past)) (sent_from (is_silent t.past) q) =
+    q'_is ∙ ap (λ (x : Tracked). begun_by (agreed_of x.side x.limits x.past) sent) t'_is ∙ ap (λ (x : Queued). begun_by (agreed_of t.side t.limits (Emit f ∷ t.past)) x) sent_is in
+    rw (t'_is, none) (record {
       lawful = h.lawful;
       opened = refl;
       legal = (d, h.legal);
-      queue = IsQueue-emit t.side t.limits t.past cuts f h.lawful (balanced t.side t.limits t.past h.lawful h.legal h.opened) h.queue d;
+      queue = Queues-begun t.side t.limits (Emit f ∷ t.past) (sent_from (is_silent t.past) q) q' stands begun;
       begun = h.begun;
       next = λ e. absurd cc;
       room = λ e. omega arith;
     })
 
--- a message that is not refused has a byte, and is no longer than the peer gathers
-pub submit_fits : (side : EndId) (limits : Limits) (past : List Event) (m : List ℕ) → IsLawful limits → submit_fault side limits past m ≡ None
-    → (0 < length m) × (length m ≤ limits.fragmented_size)
-submit_fits side limits past m lawful e =
-    let h = by_tests (is_open side limits past) (length m == 0) (nat_lt (message_limit side limits past) (length m)) e in
-    (some (length m) h.0, within (is_agreed side limits past) (length m) h.1) where
-      by_tests : (going empty long : Bool) → cond (not going) (Some refusals.Closed) (cond empty (Some refusals.Empty) (cond long (Some refusals.TooLong) None)) ≡ None
-          → (empty ≡ false) × (long ≡ false)
-      by_tests true true long e = absurd cc
-      by_tests true false true e = absurd cc
-      by_tests true false false e = (refl, refl)
-      by_tests false empty long e = absurd cc
-
-      some : (n : ℕ) → (n == 0) ≡ false → 0 < n
-      some n t = grind (arith, nat_tests)
-
-      within : (agreed : Bool) (n : ℕ) → nat_lt (cond agreed limits.fragmented_size 131072) n ≡ false → n ≤ limits.fragmented_size
-      within true n t = grind (arith, nat_tests)
-      within false n t = let most : n ≤ 131072 = grind (arith, nat_tests) in omega (arith, most, lawful.fragmented_size.0)
-
-pub Holds-submit : (t k t' : Tracked) (cuts cuts' : List Cutting) (g : Gathering) (prepared after : Option Event) (m : List ℕ) → Holds t cuts g prepared
-    → submit_fault t.side t.limits t.past m ≡ None → after ≡ None → cuts' ≡ cuts ++ started (payload_size t.limits) m ∷ []
-    → k ≡ record t { room = k.room } → 2 ≤ k.room → t' ≡ record k { past = Submit m ∷ k.past; room = k.room - 1 } → Holds t' cuts' g after
-Holds-submit t k t' cuts cuts' g prepared after m h accepted none cuts'_is k_is room t'_is =
-    let fits = submit_fits t.side t.limits t.past m h.lawful accepted in
+pub Holds-submit : (t k t' : Tracked) (q kept q' : Queued) (g : Gathering) (prepared after : Option Event) (m : List ℕ) → Holds t q g prepared
+    → submit_fault t.side t.limits t.past m ≡ None → IsSendable m → after ≡ None → kept ≡ with_message q m
+    → k ≡ record t { room = k.room } → 2 ≤ k.room → t' ≡ record k { past = Submit m ∷ k.past; room = k.room - 1 }
+    → q' ≡ begun_by (agreed_of t'.side t'.limits t'.past) kept → Holds t' q' g after
+Holds-submit t k t' q kept q' g prepared after m h accepted sendable none kept_is k_is room t'_is q'_is =
     let is : t' ≡ record t { past = Submit m ∷ t.past; room = k.room - 1 } = t'_is ∙ ap (λ (x : Tracked). record x { past = Submit m ∷ x.past; room = k.room - 1 }) k_is in
-    rw (is, none, cuts'_is) (record {
+    let begun : q' ≡ begun_by (agreed_of t.side t.limits (Submit m ∷ t.past)) (with_message q m) =
+    q'_is ∙ ap (λ (x : Tracked). begun_by (agreed_of x.side x.limits x.past) kept) is ∙ ap (λ (x : Queued). begun_by (agreed_of t.side t.limits (Submit m ∷ t.past)) x) kept_is in
+    rw (is, none) (record {
       lawful = h.lawful;
       opened = refl;
       legal = (accepted, h.legal);
-      queue = IsQueue-submit t.limits t.past cuts m h.lawful h.queue fits.0 fits.1;
+      queue = Queues-begun t.side t.limits (Submit m ∷ t.past) (with_message q m) q' (Stands-submit t.side t.limits t.past q m h.lawful h.queue sendable) begun;
       begun = h.begun;
+      next = λ e. absurd cc;
+      room = λ e. omega arith;
+    })
+
+-- a frame that is not refused
+pub Holds-take : (t k t' : Tracked) (q q' : Queued) (g g' : Gathering) (prepared after : Option Event) (frame : List ℕ) → Holds t q g prepared
+    → is_ready t.side t.limits t.past ≡ true → after ≡ None → k ≡ record t { room = k.room } → 2 ≤ k.room
+    → g' ≡ gatherer_of t.side t.limits (Take frame ∷ t.past) → t' ≡ record k { past = Take frame ∷ k.past; room = k.room - 1 }
+    → q' ≡ begun_by (agreed_of t'.side t'.limits t'.past) q → Holds t' q' g' after
+Holds-take t k t' q q' g g' prepared after frame h ready none k_is room g'_is t'_is q'_is =
+    let is : t' ≡ record t { past = Take frame ∷ t.past; room = k.room - 1 } = t'_is ∙ ap (λ (x : Tracked). record x { past = Take frame ∷ x.past; room = k.room - 1 }) k_is in
+    let begun : q' ≡ begun_by (agreed_of t.side t.limits (Take frame ∷ t.past)) q = q'_is ∙ ap (λ (x : Tracked). begun_by (agreed_of x.side x.limits x.past) q) is in
+    rw (is, none) (record {
+      lawful = h.lawful;
+      opened = refl;
+      legal = (ready, h.legal);
+      queue = Queues-begun t.side t.limits (Take frame ∷ t.past) q q' (Stands-take t.side t.limits t.past q frame h.lawful h.queue) begun;
+      begun = g'_is;
       next = λ e. absurd cc;
       room = λ e. omega arith;
     })
 
 -- a frame that is refused leaves what waits and what is begun
-pub Holds-refused : (t k t' : Tracked) (cuts : List Cutting) (g : Gathering) (prepared : Option Event) (frame : List ℕ) (fault : TakeFault) → Holds t cuts g prepared
+pub Holds-refused : (t k t' : Tracked) (q : Queued) (g : Gathering) (prepared : Option Event) (frame : List ℕ) (fault : TakeFault) → Holds t q g prepared
     → is_ready t.side t.limits t.past ≡ true → take_fault t.side t.limits t.past frame ≡ Some fault → k ≡ record t { room = k.room } → 2 ≤ k.room
-    → t' ≡ record k { past = Take frame ∷ k.past; room = k.room - 1 } → Holds t' cuts g None
-Holds-refused t k t' cuts g prepared frame fault h ready refused k_is room t'_is =
+    → t' ≡ record k { past = Take frame ∷ k.past; room = k.room - 1 } → Holds t' q g None
+Holds-refused t k t' q g prepared frame fault h ready refused k_is room t'_is =
     let is : t' ≡ record t { past = Take frame ∷ t.past; room = k.room - 1 } = t'_is ∙ ap (λ (x : Tracked). record x { past = Take frame ∷ x.past; room = k.room - 1 }) k_is in
     rw is (record {
       lawful = h.lawful;
       opened = refl;
       legal = (ready, h.legal);
-      queue = record { waiting = h.queue.waiting; sent = h.queue.sent; under_way = h.queue.under_way };
+      queue = Queues-refused t.side t.limits t.past q frame fault h.queue refused;
       begun = h.begun ∙ sym (gatherer-refused t.side t.limits t.past frame fault refused);
       next = λ e. absurd cc;
       room = λ e. omega arith;

@@ -2,6 +2,8 @@ pub mod Answered
 pub mod Gatherer
 pub mod Holds
 pub mod Keeps
+pub mod Ledgered
+pub mod Peers
 pub mod Queue
 pub mod Recorded
 pub mod Shown

@@ -10,19 +10,18 @@ ghost use Rattle.smbd_base.specs.History as spec;
 ghost use Rattle.smbd_base.specs.Limits.{IsLawful};
 ghost use Rattle.smbd_base.specs.Counts.{is_silent};
 ghost use Rattle.connection_core.specs.Gatherer.{gatherer_of};
-ghost use Rattle.connection_core.specs.Queue.{started, after_piece, waiting_after};
+ghost use Rattle.connection_core.specs.Queue.{begun_by, sent_from, with_message, IsSendable};
 ghost use Rattle.connection_core.specs.Answered.{IsSubmitFault, IsTakeRefused};
 
 use crate::frames;
+use crate::outgoing::Outgoing;
 use crate::refused::{SubmitRefused, TakeRefused};
 use crate::track::Track;
-use fragmenter::Cutter;
 use reassembly::Gather;
 use smbd_base::{
     Agreed, EndId, EndLimits, Event, Frame, Message, Next, NoMemory, SubmitFault, TakeFault,
 };
 use std::alloc::Global;
-use std::collections::VecDeque;
 use std::marker::Model;
 
 /// One end of an SMB Direct connection (MS-SMBD 3.1). Contracts see its side, its limits, its past, the newest event
@@ -31,7 +30,7 @@ use std::marker::Model;
 pub struct End {
     alloc: Global,
     track: Track,
-    waiting: VecDeque<Cutter>,
+    outgoing: Outgoing,
     gather: Gather,
     prepared: Option<Event>,
 }
@@ -45,7 +44,7 @@ impl Model for End {
 
     ghost view = { λ e. record { side = e.track.side; limits = e.track.limits; past = e.track.past; prepared = e.prepared } };
 
-    ghost invariant = { λ e. Holds e.track e.waiting.items e.gather e.prepared };
+    ghost invariant = { λ e. Holds e.track e.outgoing e.gather e.prepared };
 }
 
 impl End {
@@ -69,7 +68,7 @@ impl End {
         Ok(End {
             alloc,
             track: Track::open(alloc, side, limits)?,
-            waiting: VecDeque::new(alloc),
+            outgoing: Outgoing::new(alloc),
             gather: Gather::open(alloc, limits.fragmented_size())?,
             prepared: None,
         })
@@ -77,7 +76,7 @@ impl End {
 
     /// Accepts a message to be sent, in as many frames as it takes. It is refused, and handed back, after a cut or a
     /// refused frame (`Closed`), where it has no byte (`Empty`), and where it is longer than may be sent (`TooLong`):
-    /// than 131,072 bytes before the end is agreed, and than its MaxFragmentedSize after. A refusal changes nothing.
+    /// than 131,072 bytes before the end is agreed, and than the peer's MaxFragmentedSize after. A refusal changes nothing.
     pub fn submit(&mut self, message: Message) -> Result<(), SubmitRefused>
         ensures accepted { OnOk result (spec.submit_fault self.old.side self.old.limits self.old.past message ≡ None) }
         ensures added { OnOk result (self.new ≡ record self.old { past = events.Submit message ∷ self.old.past; prepared = None }) }
@@ -89,9 +88,10 @@ impl End {
         if let Some(fault) = self.track.submit_fault(&message) {
             return Err(SubmitRefused { fault, message });
         }
-        match keep(&mut self.track, &mut self.waiting, &message) {
+        match keep(&mut self.track, &mut self.outgoing, &message) {
             Ok(()) => {
                 self.track.add_submit(message);
+                begin_next(&self.track, &mut self.outgoing);
                 self.prepared = None;
                 Ok(())
             }
@@ -110,7 +110,7 @@ impl End {
         ensures none { OnErr result (self.new ≡ record self.old { prepared = None }) }
     {
         self.prepared = None;
-        let next = self.track.next(self.alloc, &self.waiting)?;
+        let next = self.track.next(self.alloc, &self.outgoing)?;
         if let Some(event) = due_event(&next)? {
             self.track.reserve(2)?;
             self.prepared = Some(event);
@@ -127,8 +127,9 @@ impl End {
         match self.prepared.take() {
             Some(Event::Post(_)) => self.track.add_post(),
             Some(Event::Emit(frame)) => {
-                send_first(&self.track, &mut self.waiting);
+                send_first(&self.track, &mut self.outgoing);
                 self.track.add_emit(frame);
+                begin_next(&self.track, &mut self.outgoing);
             }
             _ => unreachable!(),
         }
@@ -142,7 +143,8 @@ impl End {
     }
 
     /// Takes a frame that the peer sent, and gives the message that it ends; a piece that ends none is kept. A frame that
-    /// is refused is handed back; but for want of memory, its Take is then in the history, and the end can only be cut.
+    /// is refused is handed back; but for want of memory, its Take is then in the history, and the end can only be cut, once
+    /// a server has sent the refusing response to a request of another version.
     pub fn take(&mut self, frame: Frame) -> Result<Option<Message>, TakeRefused>
         requires { spec.is_ready self.old.side self.old.limits self.old.past ≡ true }
         ensures accepted { OnOk result (spec.take_fault self.old.side self.old.limits self.old.past frame ≡ None) }
@@ -156,7 +158,8 @@ impl End {
         match self.track.take_fault(&frame, &self.gather) {
             None => match brought(&mut self.track, &mut self.gather, &frame) {
                 Ok(message) => {
-                    self.track.add_take(frame, false);
+                    self.track.add_take(frame, None);
+                    begin_next(&self.track, &mut self.outgoing);
                     self.prepared = None;
                     Ok(message)
                 }
@@ -164,7 +167,7 @@ impl End {
             },
             Some(fault) => match copied(&mut self.track, &frame) {
                 Ok(copy) => {
-                    self.track.add_take(frame, true);
+                    self.track.add_take(frame, Some(fault));
                     self.prepared = None;
                     Err(TakeRefused { fault, frame: copy })
                 }
@@ -226,43 +229,33 @@ impl End {
 }
 
 /// Keeps a copy of a message that was accepted, to be cut and sent, with room for its Submit and for a Cut.
-fn keep(
-    track: &mut Track,
-    waiting: &mut VecDeque<Cutter>,
-    message: &Message,
-) -> Result<(), NoMemory>
-    requires some { 0 < length message.now }
-    requires short { length message.now < 2 ^ 32 }
-    ensures kept { OnOk result (waiting.new.items ≡ waiting.old.items ++ started (spec.payload_size track.old.limits) message.now ∷ []) }
-    ensures same { OnErr result (waiting.new.items ≡ waiting.old.items) }
+fn keep(track: &mut Track, outgoing: &mut Outgoing, message: &Message) -> Result<(), NoMemory>
+    requires { IsSendable message.now }
+    ensures kept { OnOk result (outgoing.new ≡ with_message outgoing.old message.now) }
+    ensures same { OnErr result (outgoing.new ≡ outgoing.old) }
     ensures track { track.new ≡ record track.old { room = track.new.room } }
     ensures room { OnOk result (2 ≤ track.new.room) }
     ensures more { track.old.room ≤ track.new.room }
 {
     track.reserve(2)?;
-    waiting.push_back(Cutter::start(message.clone()?, track.payload_size()))?;
-    Ok(())
+    outgoing.keep(message.clone()?)
 }
 
-/// Gives the piece that the next frame carries, and lets go of a message with its last piece. The first frame of an end
-/// carries none.
-fn send_first(track: &Track, waiting: &mut VecDeque<Cutter>)
-    ensures { waiting.new.items ≡ waiting_after (is_silent track.now.past) waiting.old.items }
+/// Gives the piece that the next frame carries. The first frame of an end carries none.
+fn send_first(track: &Track, outgoing: &mut Outgoing)
+    ensures { outgoing.new ≡ sent_from (is_silent track.now.past) outgoing.old }
 {
     if !track.is_silent() {
-        send_piece(waiting);
+        outgoing.sent();
     }
 }
 
-fn send_piece(waiting: &mut VecDeque<Cutter>)
-    ensures { waiting.new.items ≡ after_piece waiting.old.items }
+/// Begins to cut the next message, once the end is agreed.
+fn begin_next(track: &Track, outgoing: &mut Outgoing)
+    ensures { outgoing.new ≡ begun_by (spec.agreed_of track.now.side track.now.limits track.now.past) outgoing.old }
 {
-    let Some(cutter) = waiting.front_mut() else {
-        return;
-    };
-    let _ = cutter.next();
-    if cutter.rest() == 0 {
-        drop(waiting.pop_front());
+    if let Some(agreed) = track.agreed() {
+        outgoing.begin(agreed.send_size - frames::HEADER_SIZE);
     }
 }
 

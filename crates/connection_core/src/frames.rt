@@ -1,92 +1,107 @@
-//! The bytes of the frames that an end sends, and what it agrees with a peer of the same limits.
+//! The bytes of the frames that an end sends, and what those that it takes say.
 
-ghost use Rattle.std.specs.Prelude.{◌≡◌, ◌≤◌, ◌++◌, nat_eq, None, Ok, IfOk, OnOk, OnErr};
-ghost use lib.Pointwise.{pointwise};
-ghost use Rattle.smbd_base.specs.History.{opening_frame, awaited_frame, data_fault, asks};
+ghost use Rattle.std.specs.Prelude.{◌≡◌, ◌≤◌, ◌++◌, None, Some, Ok, IfOk, IfErr, OnOk, OnErr};
+ghost use Rattle.smbd_base.specs.History.{negotiation_fault};
 ghost use Rattle.smbd_base.specs.DataFrame.{data_frame_of};
 ghost use Rattle.smbd_base.specs.History as spec;
-ghost use Rattle.smbd_base.specs.NegotiateMessages.{IsLawfulResponse, agreed_with_client, answer_to, read_request_of, request_of_limits};
-ghost use Rattle.smbd_base.specs.Negotiation.{request_text, response_text};
-ghost use Rattle.negotiate_msg.specs.Shown.{shown_response};
+ghost use Rattle.smbd_base.specs.NegotiateMessages.{IsLawfulRequest, IsLawfulAgreement, agreed_with_client, answer_to, refusing_response, request_bytes, request_fault, request_of_limits, response_bytes, response_fault};
+ghost use Rattle.negotiate_msg.specs.Shown.{shown_request, shown_response};
 ghost use Rattle.connection_core.specs.Gatherer.{gatherer_with, message_in};
+ghost use Rattle.connection_core.specs.Peers.{Says, SaysRequest, SaysResponse};
 ghost use Rattle.transfer_msg.specs.Written.{header_text};
 
+use crate::peer::Peer;
 use negotiate_msg::{
-    NegotiateResponse, answer, read_request, settle, write_request, write_response,
+    NegotiateRequest, NegotiateResponse, answer, read_request, read_response, refusal, settle,
+    write_request, write_response,
 };
 use reassembly::Gather;
-use smbd_base::{Agreed, EndId, EndLimits, Frame, Message, NoMemory, TakeFault};
+use smbd_base::{Agreed, EndId, EndLimits, Frame, Message, NegotiateFault, NoMemory, TakeFault};
 use std::alloc::Global;
 use transfer_msg::{Header, read, write};
 
 /// The bytes before the payload of a data transfer message.
-const HEADER_SIZE: u32 = 24;
+pub const HEADER_SIZE: u32 = 24;
 
-/// The negotiation message with which an end opens.
-pub fn opening(alloc: Global, side: EndId, limits: &EndLimits) -> Result<Frame, NoMemory>
-    ensures { IfOk result (λ f. f ≡ opening_frame side limits.now) }
-{
-    match side {
-        EndId::Client => Frame::copy_of(alloc, &request(limits)),
-        EndId::Server => Frame::copy_of(alloc, &response(limits)),
-    }
-}
-
-/// Whether these bytes are the negotiation message with which the peer opens.
-pub fn is_awaited(bytes: &[u8], side: EndId, limits: &EndLimits) -> bool
-    ensures { result ≡ pointwise nat_eq bytes.now (awaited_frame side limits.now) }
-{
-    match side {
-        EndId::Client => bytes == response(limits).as_slice(),
-        EndId::Server => bytes == request(limits).as_slice(),
-    }
-}
-
-/// The negotiate request of an end with these limits (MS-SMBD 2.2.1).
-fn request(limits: &EndLimits) -> [u8; 20]
-    ensures text { result ≡ request_text limits.now }
-    ensures read_back { read_request_of result ≡ Ok (request_of_limits limits.now) }
+/// The negotiate request of a client with these limits (MS-SMBD 2.2.1).
+pub fn request(alloc: Global, limits: &EndLimits) -> Result<Frame, NoMemory>
+    ensures { IfOk result (λ f. f ≡ request_bytes (request_of_limits limits.now)) }
 {
     let mut out = [0; 20];
     write_request(limits, &mut out);
-    out
+    Frame::copy_of(alloc, &out)
 }
 
-/// The negotiate response of an end with these limits, to a peer with the same (MS-SMBD 2.2.2).
-fn response(limits: &EndLimits) -> [u8; 32]
-    ensures { result ≡ response_text limits.now }
+/// The response of a server with these limits to a request that it accepts, where it can grant so many credits
+/// (MS-SMBD 2.2.2 and 3.1.5.6).
+pub fn response(
+    alloc: Global,
+    request: &NegotiateRequest,
+    limits: &EndLimits,
+    grantable: u16,
+) -> Result<Frame, NoMemory>
+    requires read { IsLawfulRequest (shown_request request.now) }
+    requires grantable { 1 ≤ grantable }
+    ensures { IfOk result (λ f. f ≡ response_bytes (answer_to (shown_request request.now) limits.now grantable)) }
+{
+    response_frame(alloc, &answer(request, limits, grantable).0)
+}
+
+/// The response of a server that refuses a version.
+pub fn refusing(alloc: Global) -> Result<Frame, NoMemory>
+    ensures { IfOk result (λ f. f ≡ response_bytes refusing_response) }
+{
+    response_frame(alloc, &refusal())
+}
+
+fn response_frame(alloc: Global, response: &NegotiateResponse) -> Result<Frame, NoMemory>
+    ensures { IfOk result (λ f. f ≡ response_bytes (shown_response response.now)) }
 {
     let mut out = [0; 32];
-    write_response(&answered(limits).0, &mut out);
-    out
+    write_response(response, &mut out);
+    Frame::copy_of(alloc, &out)
 }
 
-/// How an end with these limits answers a peer with the same, all of whose credits can be granted, and what it has then
-/// agreed (MS-SMBD 3.1.5.6).
-fn answered(limits: &EndLimits) -> (NegotiateResponse, Agreed)
-    ensures response { shown_response result.0 ≡ answer_to (request_of_limits limits.now) limits.now limits.now.credits }
-    ensures agreed { result.1 ≡ agreed_with_client limits.now (request_of_limits limits.now) }
-    ensures accepted { IsLawfulResponse limits.now (shown_response result.0) }
+/// What a server with these limits has agreed with the client of this request, whatever it grants.
+pub fn agreed_with(request: &NegotiateRequest, limits: &EndLimits) -> Agreed
+    requires read { IsLawfulRequest (shown_request request.now) }
+    ensures agreed { result ≡ agreed_with_client limits.now (shown_request request.now) }
+    ensures lawful { IsLawfulAgreement result }
 {
-    let Ok(request) = read_request(&request(limits)) else {
-        unreachable!()
-    };
-    answer(&request, limits, limits.credits())
+    answer(request, limits, limits.credits()).1
 }
 
-/// What an end with these limits agrees with a peer of the same.
-pub fn agreed(side: EndId, limits: &EndLimits) -> Agreed
-    ensures { result ≡ record {
-      send_size = spec.send_size limits.now;
-      message_max = limits.now.fragmented_size;
-      read_write_max = spec.read_write_max side;
-      credits_requested = limits.now.credits;
-    } }
+/// What the peer's negotiation message says to an end with these limits, or why it is refused.
+pub fn heard(bytes: &[u8], side: EndId, limits: &EndLimits) -> Result<Peer, NegotiateFault>
+    ensures accepted { OnOk result (negotiation_fault side limits.now bytes.now ≡ None) }
+    ensures says { IfOk result (λ peer. Says side limits.now bytes.now peer) }
+    ensures fault { IfErr result (λ fault. negotiation_fault side limits.now bytes.now ≡ Some fault) }
 {
-    let (response, with_client) = answered(limits);
     match side {
-        EndId::Client => settle(&response, limits),
-        EndId::Server => with_client,
+        EndId::Client => response_heard(bytes, limits),
+        EndId::Server => request_heard(bytes),
+    }
+}
+
+fn response_heard(bytes: &[u8], limits: &EndLimits) -> Result<Peer, NegotiateFault>
+    ensures accepted { OnOk result (response_fault limits.now bytes.now ≡ None) }
+    ensures says { IfOk result (λ peer. SaysResponse limits.now bytes.now peer) }
+    ensures fault { IfErr result (λ fault. response_fault limits.now bytes.now ≡ Some fault) }
+{
+    match read_response(bytes, limits) {
+        Ok(response) => Ok(Peer::Responds(settle(&response, limits))),
+        Err(fault) => Err(fault),
+    }
+}
+
+fn request_heard(bytes: &[u8]) -> Result<Peer, NegotiateFault>
+    ensures accepted { OnOk result (request_fault bytes.now ≡ None) }
+    ensures says { IfOk result (λ peer. SaysRequest bytes.now peer) }
+    ensures fault { IfErr result (λ fault. request_fault bytes.now ≡ Some fault) }
+{
+    match read_request(bytes) {
+        Ok(request) => Ok(Peer::Requests(request)),
+        Err(fault) => Err(fault),
     }
 }
 
@@ -100,24 +115,6 @@ pub fn data_frame(alloc: Global, header: &Header, payload: &[u8]) -> Result<Fram
     bytes.extend_from_slice(&head[..length])?;
     bytes.extend_from_slice(payload)?;
     Frame::of_bytes(bytes)
-}
-
-/// The longest frame that an end with these limits sends, in bytes.
-fn send_size(limits: &EndLimits) -> u32
-    ensures size { result ≡ spec.send_size limits.now }
-    ensures least { 128 ≤ result }
-    ensures most { result ≤ 8192 }
-{
-    limits.send_size().min(limits.receive_size())
-}
-
-/// The bytes of a message that one frame carries.
-pub fn payload_size(limits: &EndLimits) -> u32
-    ensures size { result ≡ spec.payload_size limits.now }
-    ensures least { 104 ≤ result }
-    ensures most { result ≤ 8168 }
-{
-    send_size(limits) - HEADER_SIZE
 }
 
 /// Why a data transfer message is refused, if it is, while the gatherer stands so.

@@ -8,6 +8,8 @@
 mod end;
 mod frames;
 mod history;
+mod outgoing;
+mod peer;
 mod refused;
 #[cfg(test)]
 mod tests;

@@ -1,5 +1,7 @@
+mod negotiation;
+
 use crate::{Agreed, End, Next, SubmitFault, TakeFault};
-use smbd_base::{Broken, EndId, EndLimits, Frame, Message, NoMemory};
+use smbd_base::{Broken, EndId, EndLimits, Frame, Message, NegotiateFault, NoMemory};
 use std::alloc::Global;
 use std::process::Abort;
 use std::test::Fail;
@@ -257,7 +259,13 @@ fn an_end_of_the_usual_limits(rt: HostRuntime) -> Result<(), Fail> {
         (
             "refuses what is no request",
             Server,
-            &[Refuses(ABC, TakeFault::NotFixed), Closes],
+            &[
+                Refuses(b"abc", TakeFault::Negotiate(NegotiateFault::Short)),
+                Declines(b"abc", SubmitFault::Closed),
+                Closes,
+                Cuts,
+                Idles,
+            ],
         ),
     ];
     for (name, side, steps) in cases {

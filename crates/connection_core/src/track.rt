@@ -1,25 +1,35 @@
-//! What an end knows of its history without reading it again: its counts, and what it waits for.
+//! What an end knows of its history without reading it again: its credits, its peer, and what it waits for.
 
-ghost use Rattle.std.specs.Prelude.{◌≡◌, ◌-◌, ◌<◌, ◌≤◌, true, false, ◌&&◌, ◌||◌, nat_lt, nat_le, [], ◌∷◌, is_some, reverse, Some, None, IfOk, OnOk};
+ghost use Rattle.std.specs.Prelude.{◌≡◌, ◌-◌, ◌<◌, ◌≤◌, ◌==◌, true, false, not, ◌&&◌, ◌||◌, nat_lt, nat_le, [], ◌∷◌, is_some, is_none, length, reverse, Some, None, IfNone, IfOk, IfSome, OnOk};
+ghost use Rattle.smbd_base.specs.declared.end_id.EndId.TheVariants as ends;
 ghost use Rattle.smbd_base.specs.declared.event.Event.TheVariants as events;
 ghost use Rattle.smbd_base.specs.declared.next.Next.TheVariants as due;
 ghost use Rattle.smbd_base.specs.Counts as count;
+ghost use Rattle.smbd_base.specs.Grant.{credits_in};
 ghost use Rattle.smbd_base.specs.History as spec;
 ghost use Rattle.smbd_base.specs.Limits.{IsLawful};
+ghost use Rattle.smbd_base.specs.NegotiateMessages.{IsLawfulAgreement};
+ghost use Rattle.credit_ledger.specs.Credits.{may_spend};
+ghost use Rattle.credit_ledger.specs.Recorded.{has_reason};
 ghost use Rattle.fragmenter.specs.Cut.{next_place, piece_at};
 ghost use Rattle.connection_core.specs.Gatherer.{gatherer_of};
-ghost use Rattle.connection_core.specs.Queue.{IsQueue};
-ghost use Rattle.connection_core.specs.Standing.{standing_of};
+ghost use Rattle.connection_core.specs.Ledgered.{after_sending, after_taking};
+ghost use Rattle.connection_core.specs.Peers.{Knows};
+ghost use Rattle.connection_core.specs.Queue.{IsSendable, Queues};
+ghost use Rattle.connection_core.specs.Standing.{sent_standing, standing_of, taken_standing};
 
 use crate::frames;
 use crate::history::History;
+use crate::outgoing::Outgoing;
+use crate::peer::Peer;
+use credit_ledger::Ledger;
 use fragmenter::{Cutter, Piece};
 use reassembly::Gather;
 use smbd_base::{
-    Agreed, EndId, EndLimits, Event, Frame, Message, Next, NoMemory, SubmitFault, TakeFault,
+    Agreed, EndId, EndLimits, Event, Frame, Message, NegotiateFault, Next, NoMemory, SubmitFault,
+    TakeFault,
 };
 use std::alloc::Global;
-use std::collections::VecDeque;
 use std::marker::Model;
 use transfer_msg::Header;
 
@@ -29,25 +39,27 @@ const GATHERED_AT_LEAST: u32 = 131_072;
 /// Whether an end goes on.
 #[derive(Clone, Copy, Debug, PartialEq, Eq)]
 pub enum Standing {
+    /// It was neither cut nor has it refused a frame.
     Open,
-    Refused,
+    /// It has refused a version, and still sends the refusing response.
+    Declining,
+    /// Only a cut can follow.
+    Closed,
+    /// It was cut.
     Cut,
 }
 
-/// The history of an end, beside the few numbers that say all that the next step needs of it.
+/// The history of an end, beside the little that says all that the next step needs of it.
 /// Contracts see the side, the limits, the past and the room for events.
 #[derive(Drop)]
 pub struct Track {
     side: EndId,
     limits: EndLimits,
     history: History,
-    held: u16,
-    outstanding: u16,
-    grantable: u16,
+    ledger: Ledger,
     standing: Standing,
     spoken: bool,
-    heard: bool,
-    welcomed: bool,
+    peer: Peer,
     post_due: bool,
     response_owed: bool,
 }
@@ -75,17 +87,15 @@ impl Track {
         let credits = limits.credits();
         let mut history = History::open(alloc, 2)?;
         history.push(Event::Post(credits));
+        let ledger = Ledger::open(credits);
         Ok(Track {
             side,
             limits,
             history,
-            held: 1,
-            outstanding: 1,
-            grantable: credits - 1,
+            ledger,
             standing: Standing::Open,
             spoken: false,
-            heard: false,
-            welcomed: false,
+            peer: Peer::Unheard,
             post_due: false,
             response_owed: false,
         })
@@ -100,19 +110,19 @@ impl Track {
     pub fn held(&self) -> u16
         ensures { result ≡ count.credits_held self.now.side self.now.past }
     {
-        self.held
+        self.ledger.held()
     }
 
     pub fn outstanding(&self) -> u16
         ensures { result ≡ count.receives_outstanding self.now.side self.now.past }
     {
-        self.outstanding
+        self.ledger.outstanding()
     }
 
     pub fn grantable(&self) -> u16
         ensures { result ≡ count.receives_grantable self.now.side self.now.past }
     {
-        self.grantable
+        self.ledger.grantable()
     }
 
     pub fn events(&self) -> &[Event]
@@ -148,13 +158,7 @@ impl Track {
     pub fn is_unheard(&self) -> bool
         ensures { result ≡ count.is_unheard self.now.past }
     {
-        !self.heard
-    }
-
-    fn is_agreed(&self) -> bool
-        ensures { result ≡ spec.is_agreed self.now.side self.now.limits self.now.past }
-    {
-        self.welcomed && self.spoken
+        matches!(self.peer, Peer::Unheard)
     }
 
     fn is_out_of_turn(&self) -> bool
@@ -164,22 +168,29 @@ impl Track {
             EndId::Client => !self.spoken,
             EndId::Server => false,
         };
-        early || self.outstanding == 0
+        early || self.ledger.outstanding() == 0
     }
 
     /// What the negotiation has settled, once it has.
     pub fn agreed(&self) -> Option<Agreed>
-        ensures { result ≡ spec.agreed_of self.now.side self.now.limits self.now.past }
+        ensures agreed { result ≡ spec.agreed_of self.now.side self.now.limits self.now.past }
+        ensures lawful { IfSome result (λ agreed. IsLawfulAgreement agreed) }
     {
-        if !self.is_agreed() {
+        if !self.spoken {
             return None;
         }
-        Some(frames::agreed(self.side, &self.limits))
+        match &self.peer {
+            Peer::Unheard => None,
+            Peer::Refused => None,
+            Peer::Requests(request) => Some(frames::agreed_with(request, &self.limits)),
+            Peer::Responds(agreed) => Some(*agreed),
+        }
     }
 
     /// Why a message is refused, if it is.
     pub fn submit_fault(&self, message: &Message) -> Option<SubmitFault>
-        ensures { result ≡ spec.submit_fault self.now.side self.now.limits self.now.past message.now }
+        ensures fault { result ≡ spec.submit_fault self.now.side self.now.limits self.now.past message.now }
+        ensures sendable { IfNone result (IsSendable message.now) }
     {
         if !self.is_open() {
             return Some(SubmitFault::Closed);
@@ -197,19 +208,10 @@ impl Track {
     fn message_limit(&self) -> u32
         ensures { result ≡ spec.message_limit self.now.side self.now.limits self.now.past }
     {
-        if self.is_agreed() {
-            self.limits.fragmented_size()
-        } else {
-            GATHERED_AT_LEAST
+        match self.agreed() {
+            Some(agreed) => agreed.message_max,
+            None => GATHERED_AT_LEAST,
         }
-    }
-
-    /// The bytes of a message that one frame carries.
-    pub fn payload_size(&self) -> u32
-        ensures size { result ≡ spec.payload_size self.now.limits }
-        ensures least { 104 ≤ result }
-    {
-        frames::payload_size(&self.limits)
     }
 
     /// Why a frame is refused, if it is, by the gatherer of this past.
@@ -229,25 +231,24 @@ impl Track {
                 limit,
             });
         }
-        if self.heard {
+        if !self.is_unheard() {
             return frames::data_fault(frame.bytes(), gather);
         }
-        if frames::is_awaited(frame.bytes(), self.side, &self.limits) {
-            None
-        } else {
-            Some(TakeFault::NotFixed)
+        match frames::heard(frame.bytes(), self.side, &self.limits) {
+            Ok(_) => None,
+            Err(fault) => Some(TakeFault::Negotiate(fault)),
         }
     }
 
     /// The event that comes next, while these messages wait to be sent.
-    pub fn next(&self, alloc: Global, waiting: &VecDeque<Cutter>) -> Result<Next, NoMemory>
-        requires queue { IsQueue self.now.limits self.now.past waiting.now.items }
+    pub fn next(&self, alloc: Global, outgoing: &Outgoing) -> Result<Next, NoMemory>
+        requires queue { Queues self.now.side self.now.limits self.now.past outgoing.now }
         ensures { IfOk result (λ n. n ≡ spec.next_event self.now.side self.now.limits self.now.past) }
     {
         match self.standing() {
             Standing::Cut => return Ok(Next::Idle),
-            Standing::Refused => return Ok(Next::Close),
-            Standing::Open => {}
+            Standing::Closed => return Ok(Next::Close),
+            Standing::Declining | Standing::Open => {}
         }
         if self.is_post_due() {
             return Ok(Next::Post(1));
@@ -255,8 +256,8 @@ impl Track {
         if self.is_opening() {
             return Ok(Next::Emit(self.opening_frame(alloc)?));
         }
-        if self.is_sending(waiting) {
-            return Ok(Next::Emit(self.frame_due(alloc, waiting)?));
+        if self.is_sending(outgoing) {
+            return Ok(Next::Emit(self.frame_due(alloc, outgoing)?));
         }
         Ok(Next::Idle)
     }
@@ -280,22 +281,44 @@ impl Track {
     {
         match self.side {
             EndId::Client => !self.spoken,
-            EndId::Server => !self.spoken && self.heard,
+            EndId::Server => !self.spoken && !self.is_unheard(),
         }
     }
 
+    /// The negotiation message that is due.
     fn opening_frame(&self, alloc: Global) -> Result<Frame, NoMemory>
-        ensures { IfOk result (λ f. f ≡ spec.opening_frame self.now.side self.now.limits) }
+        requires uncut { spec.is_cut self.now.past ≡ false }
+        requires going { spec.is_closed self.now.side self.now.limits self.now.past ≡ false }
+        requires reposted { spec.is_post_due self.now.past ≡ false }
+        requires opening { spec.is_opening self.now.side self.now.past ≡ true }
+        ensures { IfOk result (λ f. f ≡ spec.opening_frame self.now.side self.now.limits self.now.past) }
     {
-        frames::opening(alloc, self.side, &self.limits)
+        match &self.peer {
+            Peer::Requests(request) => {
+                frames::response(alloc, request, &self.limits, self.ledger.grantable())
+            }
+            Peer::Refused => frames::refusing(alloc),
+            Peer::Unheard | Peer::Responds(_) => frames::request(alloc, &self.limits),
+        }
     }
 
     /// Whether a data transfer message is due, while these messages wait to be sent.
-    fn is_sending(&self, waiting: &VecDeque<Cutter>) -> bool
-        requires queue { IsQueue self.now.limits self.now.past waiting.now.items }
+    fn is_sending(&self, outgoing: &Outgoing) -> bool
+        requires queue { Queues self.now.side self.now.limits self.now.past outgoing.now }
         ensures { result ≡ spec.is_sending self.now.side self.now.limits self.now.past }
     {
-        self.is_agreed() && self.has_reason(!waiting.is_empty())
+        self.is_agreed() && self.has_reason(!outgoing.is_empty())
+    }
+
+    fn is_agreed(&self) -> bool
+        ensures { result ≡ spec.is_agreed self.now.side self.now.limits self.now.past }
+    {
+        match &self.peer {
+            Peer::Unheard => false,
+            Peer::Refused => false,
+            Peer::Requests(_) => self.spoken,
+            Peer::Responds(_) => self.spoken,
+        }
     }
 
     /// Whether an agreed end sends, where a piece waits or none does.
@@ -303,33 +326,34 @@ impl Track {
         ensures { result ≡ spec.sends (count.credits_held self.now.side self.now.past) (count.receives_outstanding self.now.side self.now.past)
             (count.receives_grantable self.now.side self.now.past) waits (spec.is_response_owed self.now.past) }
     {
-        self.held >= 1
-            && (waits || self.response_owed || (self.outstanding <= 1 && self.grantable >= 1))
-            && (self.held != 1 || self.grantable >= 1)
+        let grantable = self.ledger.grantable();
+        (waits || self.response_owed || (self.ledger.outstanding() <= 1 && grantable >= 1))
+            && self.ledger.may_spend(grantable)
     }
 
     /// The data transfer message that is due, while these messages wait to be sent.
-    fn frame_due(&self, alloc: Global, waiting: &VecDeque<Cutter>) -> Result<Frame, NoMemory>
-        requires queue { IsQueue self.now.limits self.now.past waiting.now.items }
+    fn frame_due(&self, alloc: Global, outgoing: &Outgoing) -> Result<Frame, NoMemory>
+        requires queue { Queues self.now.side self.now.limits self.now.past outgoing.now }
+        requires agreed { spec.is_agreed self.now.side self.now.limits self.now.past ≡ true }
         ensures { IfOk result (λ f. f ≡ spec.frame_due self.now.side self.now.limits self.now.past) }
     {
-        let Some(cutter) = waiting.front() else {
+        let Some(cutter) = outgoing.first() else {
             return frames::data_frame(alloc, &self.header(false, 0, 0), &[]);
         };
         let Some(piece) = cutter.peek() else {
             unreachable!()
         };
-        let asks = self.asks_for_response(piece.remaining, waiting.len());
+        let asks = self.asks_for_response(piece.remaining, outgoing.has_more());
         let header = self.header(asks, piece.remaining, piece.length);
         frames::data_frame(alloc, &header, bytes_of(cutter, &piece))
     }
 
-    /// Whether the next frame asks for a response, where so many bytes of its message come after it, and so many
-    /// messages wait: a piece waits after it, and it leaves one credit or none.
-    fn asks_for_response(&self, remaining: u32, waiting: usize) -> bool
-        ensures { result ≡ ((nat_lt 0 remaining || nat_lt 1 waiting) && nat_le (count.credits_held self.now.side self.now.past) 2) }
+    /// Whether the next frame asks for a response, where so many bytes of its message come after it, and more messages
+    /// wait or none does: a piece waits after it, and it leaves one credit or none.
+    fn asks_for_response(&self, remaining: u32, more: bool) -> bool
+        ensures { result ≡ ((nat_lt 0 remaining || more) && nat_le (count.credits_held self.now.side self.now.past) 2) }
     {
-        (remaining > 0 || waiting > 1) && self.held <= 2
+        (remaining > 0 || more) && self.ledger.held() <= 2
     }
 
     /// The header of a data transfer message with a piece of so many bytes, after which so many come. It grants all
@@ -345,7 +369,7 @@ impl Track {
     {
         Header {
             credits_requested: self.limits.credits(),
-            credits_granted: self.grantable,
+            credits_granted: self.ledger.grantable(),
             response_requested,
             remaining,
             length,
@@ -368,7 +392,7 @@ impl Track {
         ensures { self.new ≡ record self.old { past = events.Post 1 ∷ self.old.past; room = self.old.room - 1 } }
     {
         self.history.push(Event::Post(1));
-        self.grantable += 1;
+        self.ledger.posted(1);
         self.post_due = false;
     }
 
@@ -388,37 +412,88 @@ impl Track {
         ensures { self.new ≡ record self.old { past = events.Emit frame ∷ self.old.past; room = self.old.room - 1 } }
     {
         let granted = frame.granted(self.side, !self.spoken);
+        let standing = self.standing_after_sending();
         self.history.push(Event::Emit(frame));
-        self.held -= 1;
-        self.outstanding += granted;
-        self.grantable -= granted;
+        spend(&mut self.ledger, !self.spoken, granted);
+        self.standing = standing;
         self.spoken = true;
         self.response_owed = false;
     }
 
-    /// Adds the Take of a frame, which is refused or not.
-    pub fn add_take(&mut self, frame: Frame, refused: bool)
+    /// An end that was declining is closed once it has sent its response.
+    fn standing_after_sending(&self) -> Standing
+        ensures { result ≡ sent_standing (standing_of self.now.side self.now.limits self.now.past) }
+    {
+        match self.standing {
+            Standing::Declining => Standing::Closed,
+            standing => standing,
+        }
+    }
+
+    /// Adds the Take of a frame, which is refused for this fault or is not.
+    pub fn add_take(&mut self, frame: Frame, fault: Option<TakeFault>)
         requires room { 0 < self.old.room }
         requires ready { spec.is_ready self.old.side self.old.limits self.old.past ≡ true }
-        requires fault { refused ≡ is_some (spec.take_fault self.old.side self.old.limits self.old.past frame) }
+        requires fault { fault ≡ spec.take_fault self.old.side self.old.limits self.old.past frame }
         ensures { self.new ≡ record self.old { past = events.Take frame ∷ self.old.past; room = self.old.room - 1 } }
     {
-        let held = self.held_after(&frame);
-        let outstanding = self.outstanding_after(&frame);
-        let welcomed = self.welcomed_after(&frame, refused);
+        let in_turn = !self.is_out_of_turn();
+        let granted = self.grant_in(&frame);
+        let standing = self.standing_after_taking(fault);
+        let peer = self.peer_after(&frame, fault.is_some());
         let response_owed = self.response_owed_after(&frame);
         self.history.push(Event::Take(frame));
-        self.held = held;
-        self.outstanding = outstanding;
-        self.standing = if refused {
-            Standing::Refused
-        } else {
-            Standing::Open
-        };
-        self.heard = true;
-        self.welcomed = welcomed;
+        earn(&mut self.ledger, in_turn, granted);
+        self.standing = standing;
+        self.peer = peer;
         self.post_due = true;
         self.response_owed = response_owed;
+    }
+
+    /// The credits that a frame of the peer grants.
+    fn grant_in(&self, frame: &Frame) -> u16
+        ensures { result ≡ credits_in (count.peer_of self.now.side) (count.is_unheard self.now.past) frame.now }
+    {
+        let peer = match self.side {
+            EndId::Client => EndId::Server,
+            EndId::Server => EndId::Client,
+        };
+        frame.granted(peer, self.is_unheard())
+    }
+
+    /// How an open end stands after a frame that is refused for this fault, or is not.
+    fn standing_after_taking(&self, fault: Option<TakeFault>) -> Standing
+        ensures { result ≡ taken_standing self.now.side (count.is_silent self.now.past) fault }
+    {
+        match (fault, self.side) {
+            (None, _) => Standing::Open,
+            (Some(TakeFault::Negotiate(NegotiateFault::Version)), EndId::Server) if !self.spoken =>
+                { Standing::Declining }
+            (Some(_), _) => Standing::Closed,
+        }
+    }
+
+    /// What is known of the peer after a frame that is refused or is not.
+    fn peer_after(&self, frame: &Frame, refused: bool) -> Peer
+        requires { refused ≡ is_some (spec.take_fault self.now.side self.now.limits self.now.past frame.now) }
+        ensures { Knows self.now.side self.now.limits (events.Take frame.now ∷ self.now.past) result }
+    {
+        if !self.is_unheard() {
+            return self.peer;
+        }
+        if refused {
+            return Peer::Refused;
+        }
+        match frames::heard(frame.bytes(), self.side, &self.limits) {
+            Ok(peer) => peer,
+            Err(_) => unreachable!(),
+        }
+    }
+
+    fn response_owed_after(&self, frame: &Frame) -> bool
+        ensures { result ≡ spec.is_response_owed (events.Take frame.now ∷ self.now.past) }
+    {
+        (!self.is_unheard() && frames::asks(frame.bytes())) || self.response_owed
     }
 
     /// Adds the Cut of an end that is not cut.
@@ -431,42 +506,29 @@ impl Track {
         self.standing = Standing::Cut;
         self.post_due = false;
     }
+}
 
-    fn held_after(&self, frame: &Frame) -> u16
-        ensures { result ≡ count.credits_held self.now.side (events.Take frame.now ∷ self.now.past) }
-    {
-        if self.is_out_of_turn() {
-            self.held
-        } else {
-            let peer = match self.side {
-                EndId::Client => EndId::Server,
-                EndId::Server => EndId::Client,
-            };
-            self.held.saturating_add(frame.granted(peer, !self.heard))
-        }
+/// Spends a credit on a frame that grants so many. The one that opens spends the credit of the negotiation where it
+/// grants none.
+fn spend(ledger: &mut Ledger, opening: bool, granted: u16)
+    requires one { (opening && granted == 0) ≡ true → ledger.old.held ≡ 1 }
+    requires may { (opening && granted == 0) ≡ false → may_spend granted ledger.old ≡ true }
+    ensures { ledger.new ≡ after_sending opening granted ledger.old }
+{
+    if opening && granted == 0 {
+        ledger.spend_request();
+    } else {
+        ledger.spend(granted);
     }
+}
 
-    fn outstanding_after(&self, frame: &Frame) -> u16
-        ensures { result ≡ count.receives_outstanding self.now.side (events.Take frame.now ∷ self.now.past) }
-    {
-        if self.is_out_of_turn() {
-            self.outstanding
-        } else {
-            self.outstanding - 1
-        }
-    }
-
-    fn welcomed_after(&self, frame: &Frame, refused: bool) -> bool
-        requires { refused ≡ is_some (spec.take_fault self.now.side self.now.limits self.now.past frame.now) }
-        ensures { result ≡ spec.is_welcomed self.now.side self.now.limits (events.Take frame.now ∷ self.now.past) }
-    {
-        if self.heard { self.welcomed } else { !refused }
-    }
-
-    fn response_owed_after(&self, frame: &Frame) -> bool
-        ensures { result ≡ spec.is_response_owed (events.Take frame.now ∷ self.now.past) }
-    {
-        (self.heard && frames::asks(frame.bytes())) || self.response_owed
+/// Earns what a frame grants that came in turn.
+fn earn(ledger: &mut Ledger, in_turn: bool, granted: u16)
+    requires turn { in_turn ≡ true → 1 ≤ ledger.old.outstanding }
+    ensures { ledger.new ≡ after_taking in_turn granted ledger.old }
+{
+    if in_turn {
+        ledger.took(granted);
     }
 }
 

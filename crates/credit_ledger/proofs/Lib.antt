@@ -1,2 +1,2 @@
-mod Recording
-mod Spending
+pub mod Recording
+pub mod Spending

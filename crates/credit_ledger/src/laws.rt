@@ -43,7 +43,8 @@ pub fn sent_frames_are_recorded()
         → IsLedgerOf side (events.Emit frame ∷ past) (with_spent (credits_in side (is_silent past) frame) c) }
 {}
 
-/// `spend_request` records a client's first Emit, and also that of any other frame that grants nothing.
+/// `spend_request` records a client's first Emit, and also that of any other frame that grants nothing, as a server's
+/// refusing response.
 pub fn requests_are_recorded()
     ensures request { (past : List Happening) (c : Credits) (frame : List ℕ) → IsLedgerOf Client past c → is_silent past ≡ true
         → IsLedgerOf Client (events.Emit frame ∷ past) (with_request c) }
@@ -51,9 +52,9 @@ pub fn requests_are_recorded()
         → credits_in side (is_silent past) frame ≡ 0 → IsLedgerOf side (events.Emit frame ∷ past) (with_request c) }
 {}
 
-/// A client that has sent nothing holds one credit, so that it may `spend_request`.
-pub fn a_silent_client_holds_one()
-    ensures { (past : List Happening) → is_silent past ≡ true → credits_held Client past ≡ 1 }
+/// An end that has sent nothing holds the one credit of the negotiation, so that it may `spend_request`.
+pub fn silent_ends_hold_one()
+    ensures { (side : Side) (past : List Happening) → is_silent past ≡ true → credits_held side past ≡ 1 }
 {}
 
 /// A Submit and a Cut leave the ledger as it is.
@@ -82,9 +83,10 @@ pub fn due_posts_fit()
         → c.grantable + c.outstanding + n ≤ limits.credits }
 {}
 
-/// The frame that a legal history sends next may be spent, unless it is the request with which a client opens.
+/// The frame that a legal history sends next may be spent, unless the end opens by it and it grants nothing: a client's
+/// request, or a server's refusing response. Then one credit is held.
 pub fn due_frames_may_be_spent()
     ensures { (side : Side) (limits : Limits) (past : List Happening) (c : Credits) (frame : List ℕ) → IsLawful limits → IsLegal side limits past
         → IsLedgerOf side past c → next_event side limits past ≡ due.Emit frame
-        → ((side ≡ Client) × (is_silent past ≡ true)) ⊎ (may_spend (credits_in side (is_silent past) frame) c ≡ true) }
+        → ((is_silent past ≡ true) × (c.held ≡ 1) × (credits_in side true frame ≡ 0)) ⊎ (may_spend (credits_in side (is_silent past) frame) c ≡ true) }
 {}

@@ -11,8 +11,9 @@ mod ledger;
 mod tests;
 
 pub use laws::{
-    a_silent_client_holds_one, counts_of_legal_histories, due_frames_may_be_spent, due_posts_fit,
+    counts_of_legal_histories, due_frames_may_be_spent, due_posts_fit,
     ends_send_what_they_may_spend, opening_is_recorded, other_events_change_nothing,
-    posts_are_recorded, requests_are_recorded, sent_frames_are_recorded, takes_are_recorded,
+    posts_are_recorded, requests_are_recorded, sent_frames_are_recorded, silent_ends_hold_one,
+    takes_are_recorded,
 };
 pub use ledger::Ledger;

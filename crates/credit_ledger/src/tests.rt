@@ -115,6 +115,14 @@ const ROWS: &[Row<'static>] = &[
         may_not: &[0, 1, 10],
     },
     Row {
+        name: "a server that has refused a version",
+        max: 10,
+        steps: &[Step::Took(0), Step::Posted(1), Step::SpendRequest],
+        counts: (0, 0, 10),
+        may: &[],
+        may_not: &[0, 1, 10],
+    },
+    Row {
         name: "a server that keeps its last credit",
         max: 10,
         steps: &[

@@ -1,23 +1,27 @@
 -- The counts of a legal history, by induction over its events.
-use Rattle.std.proofs.Common.{◌≡◌, inl, inr, ℕ, ◌+◌, ◌*◌, ◌/◌, ◌%◌, ◌≤◌, ◌<◌, ◌==◌, nat_le, Bool, true, false, not, ◌&&◌, ◌||◌, length, cond, List, [], ◌∷◌, is_some, min, refl, ap, subst, arith}
+use Rattle.std.proofs.Common.{◌≡◌, inl, inr, ℕ, ◌+◌, ◌≤◌, ◌<◌, ◌==◌, nat_le, Bool, true, false, not, ◌&&◌, ◌||◌, length, cond, List, [], ◌∷◌, is_some, min, Option, refl, ap, subst, arith}
 use Rattle.std.proofs.lemmas.Bool.Decides.{nat_tests}
 use Rattle.smbd_base.specs.declared.end_id.EndId.{EndId}
 use Rattle.smbd_base.specs.declared.end_id.EndId.TheVariants.{Client, Server}
 use Rattle.smbd_base.specs.declared.event.Event.{Event}
 use Rattle.smbd_base.specs.declared.event.Event.TheVariants.{Post, Submit, Emit, Take, Cut}
+use Rattle.smbd_base.specs.declared.faults.TakeFault.{TakeFault}
 use Rattle.smbd_base.specs.Limits.{Limits, IsLawful}
 use Rattle.smbd_base.specs.Grant.{credits_in}
 use Rattle.smbd_base.specs.Pieces.{Piece}
 use Rattle.smbd_base.specs.Counts.{frames_taken, credits_earned, credits_held, receives_outstanding, receives_grantable, is_silent, is_unheard, is_early, is_out_of_turn, peer_of}
-use Rattle.smbd_base.specs.History.{take_fault, opening_frame, data_frame_due, pieces_waiting, is_response_owed, is_cut, is_new, is_refused, is_post_due, is_opening, is_agreed, is_welcomed, is_ready, sends, MayFollow, IsLegal}
+use Rattle.smbd_base.specs.History.{opening_frame, peer_opening, data_frame_due, pieces_waiting, is_response_owed, is_cut, is_new, is_version_fault, is_server, is_version_refused, is_closed, is_post_due, is_opening, is_agreed, is_ready, sends, MayFollow, IsLegal}
+use Rattle.smbd_base.specs.NegotiateMessages.{Request, request_fields, response_bytes, answer_to, refusing_response}
 use Rattle.smbd_base.specs.Balance.{IsBalanced, receives_due}
 use Rattle.smbd_base.proofs.FrameLaws.{credits_in-frame_bytes}
-use Rattle.smbd_base.proofs.Inversion.{IsGoing, Emits, emits, posts, both, from_not, ready_parts, in_turn}
+use Rattle.smbd_base.proofs.NegotiationLaws.{credits_in-response_bytes, fits-answer}
+use Rattle.smbd_base.proofs.Inversion.{Emits, CanTake, emits, posts, both, sending_parts, ready_parts, out_of_turn}
 
 -- ---- what a frame that is sent grants
 
-two_bytes : (n : ℕ) → n < 65536 → n % 256 + 256 * (n / 256 % 256) ≡ n
-two_bytes n lt = omega arith
+pub silent_opening : (side : EndId) (past : List Event) → is_opening side past ≡ true → is_silent past ≡ true
+silent_opening Client past opening = opening
+silent_opening Server past opening = (both (is_silent past) _ opening).0
 
 -- a data transfer message grants all that can be granted
 pub granted-data_frame_due : (side : EndId) (limits : Limits) (held grantable : ℕ) (waiting : List Piece) → grantable < 65536
@@ -26,30 +30,35 @@ granted-data_frame_due side limits held grantable [] lt = credits_in-frame_bytes
 granted-data_frame_due side limits held grantable (p ∷ later) lt =
     credits_in-frame_bytes side limits.credits grantable (not (length later == 0) && nat_le held 2) p.remaining p.payload lt
 
+-- the response to a request grants no more than can be granted
+grants_answer : (limits : Limits) (request : Request) (grantable : ℕ) → IsLawful limits → grantable < 65536
+    → credits_in Server true (response_bytes (answer_to request limits grantable)) ≤ grantable
+grants_answer limits request grantable lawful small =
+    let is : credits_in Server true (response_bytes (answer_to request limits grantable)) ≡ min request.credits_requested grantable =
+    credits_in-response_bytes (answer_to request limits grantable) (fits-answer limits request grantable lawful small) in
+    omega (arith, is)
+
+grants_response : (limits : Limits) (past : List Event) (version : Bool) → IsLawful limits → receives_grantable Server past < 65536
+    → credits_in Server true (cond version (response_bytes refusing_response) (response_bytes (answer_to (request_fields (peer_opening past)) limits (receives_grantable Server past))))
+    ≤ receives_grantable Server past
+grants_response limits past true lawful small = omega arith
+grants_response limits past false lawful small = grants_answer limits (request_fields (peer_opening past)) (receives_grantable Server past) lawful small
+
 -- what the opening frame grants can be granted
-grants_opening : (side : EndId) (limits : Limits) (past : List Event) → IsLawful limits → IsBalanced side limits past → IsGoing side limits past
-    → is_post_due past ≡ false → is_opening side past ≡ true → credits_in side (is_silent past) (opening_frame side limits) ≤ receives_grantable side past
-grants_opening Client limits past lawful b going settled opening = rw opening (omega arith)
-grants_opening Server limits past lawful b going settled opening =
-    let parts = both (is_silent past) _ opening in
-    let heard = from_not (is_unheard past) parts.1 in
-    let one = b.silent_granted parts.0 in
-    let first = b.heard_taken heard going.refused in
-    let none : receives_due past ≡ 0 = rw settled refl in
-    let all = b.reposted going.cut going.refused in
-    let credits = two_bytes limits.credits (omega (arith, lawful.credits.1)) in
-    let taken = b.taken in
-    rw parts.0 (rw credits (omega arith))
+grants_opening : (side : EndId) (limits : Limits) (past : List Event) → IsLawful limits → IsBalanced side limits past → is_silent past ≡ true
+    → credits_in side (is_silent past) (opening_frame side limits past) ≤ receives_grantable side past
+grants_opening Client limits past lawful b silent = rw silent (omega arith)
+grants_opening Server limits past lawful b silent =
+    rw silent (grants_response limits past (is_version_refused Server limits past) lawful (omega (arith, b.posted, b.taken, lawful.credits.1)))
 
 -- what a sent frame grants can be granted
 pub grants : (side : EndId) (limits : Limits) (past : List Event) (frame : List ℕ) → IsLawful limits → IsBalanced side limits past
     → Emits side limits past frame → credits_in side (is_silent past) frame ≤ receives_grantable side past
 grants side limits past frame lawful b e =
     elim e.chosen.why as (λ _. credits_in side (is_silent past) frame ≤ receives_grantable side past) [
-      | inl first ↦ rw (← first.1) (grants_opening side limits past lawful b e.going e.post_due first.0)
+      | inl first ↦ rw (← first.1) (grants_opening side limits past lawful b (silent_opening side past first.0))
       | inr later ↦
-          let agreed : is_agreed side limits past ≡ true = (both (is_agreed side limits past) _ later.1).0 in
-          let spoken : is_silent past ≡ false = from_not (is_silent past) (both (is_welcomed side limits past) _ agreed).1 in
+          let spoken = (sending_parts side limits past e.going.closed later.1).spoken in
           let small : receives_grantable side past < 65536 = omega (arith, b.posted, b.taken, lawful.credits.1) in
           rw (← later.2, spoken, granted-data_frame_due side limits (credits_held side past) (receives_grantable side past) _ small) (omega arith)
     ]
@@ -69,14 +78,14 @@ balanced_open side limits n lawful is = record {
   heard_taken = λ h _. absurd cc;
 }
 
-balanced_post : (side : EndId) (limits : Limits) (past : List Event) → is_cut past ≡ false → is_post_due past ≡ true → is_refused side limits past ≡ false → IsBalanced side limits past → IsBalanced side limits (Post 1 ∷ past)
+balanced_post : (side : EndId) (limits : Limits) (past : List Event) → is_cut past ≡ false → is_post_due past ≡ true → is_closed side limits past ≡ false → IsBalanced side limits past → IsBalanced side limits (Post 1 ∷ past)
 balanced_post side limits past uncut owed accepted b =
     let one : receives_due past ≡ 1 = rw owed refl in
     record {
       granted = omega (arith, b.granted);
       taken = b.taken;
       posted = omega (arith, b.reposted uncut accepted);
-      reposted = λ cut refused. omega (arith, b.reposted cut refused);
+      reposted = λ cut closed. omega (arith, b.reposted cut closed);
       spent = b.spent;
       silent_granted = b.silent_granted;
       silent_held = b.silent_held;
@@ -107,10 +116,6 @@ balanced_cut side limits past b = record {
   heard_taken = b.heard_taken;
 }
 
-pub silent_opening : (side : EndId) (past : List Event) → is_opening side past ≡ true → is_silent past ≡ true
-silent_opening Client past opening = opening
-silent_opening Server past opening = (both (is_silent past) _ opening).0
-
 held_sends : (held outstanding grantable : ℕ) (waits owes : Bool) → sends held outstanding grantable waits owes ≡ true → 1 ≤ held
 held_sends held outstanding grantable waits owes e =
     let h : nat_le 1 held ≡ true = (both _ _ (both _ _ e).0).0 in
@@ -121,7 +126,7 @@ pub holds_one : (side : EndId) (limits : Limits) (past : List Event) (frame : Li
 holds_one side limits past frame b e =
     elim e.chosen.why as (λ _. 1 ≤ credits_held side past) [
       | inl first ↦ b.silent_held (silent_opening side past first.0)
-      | inr later ↦ held_sends (credits_held side past) (receives_outstanding side past) (receives_grantable side past) (not (length (pieces_waiting limits past) == 0)) (is_response_owed past) (both (is_agreed side limits past) _ later.1).1
+      | inr later ↦ held_sends (credits_held side past) (receives_outstanding side past) (receives_grantable side past) (not (length (pieces_waiting side limits past) == 0)) (is_response_owed past) (both (is_agreed side limits past) _ later.1).1
     ]
 
 balanced_emit : (side : EndId) (limits : Limits) (past : List Event) (frame : List ℕ) → IsLawful limits → IsBalanced side limits past → Emits side limits past frame → IsBalanced side limits (Emit frame ∷ past)
@@ -133,11 +138,11 @@ balanced_emit side limits past frame lawful b e =
       granted = omega (arith, b.granted);
       taken = omega (arith, b.taken);
       posted = b.posted;
-      reposted = λ cut refused. omega (arith, b.reposted cut refused);
+      reposted = λ cut closed. omega (arith, b.reposted cut e.going.closed);
       spent = omega (arith, b.spent);
       silent_granted = λ h. absurd cc;
       silent_held = λ h. absurd cc;
-      heard_taken = b.heard_taken;
+      heard_taken = λ h closed. b.heard_taken h e.going.closed;
     }
 
 some_left : (early : Bool) (outstanding : ℕ) → (early || outstanding == 0) ≡ false → 1 ≤ outstanding
@@ -146,7 +151,7 @@ some_left false outstanding e = grind (arith, nat_tests)
 
 balanced_take : (side : EndId) (limits : Limits) (past : List Event) (frame : List ℕ) → IsBalanced side limits past → is_ready side limits past ≡ true → IsBalanced side limits (Take frame ∷ past)
 balanced_take side limits past frame b ready = by_turn (is_out_of_turn side past) refl where
-  parts : IsGoing side limits past × (is_post_due past ≡ false)
+  parts : CanTake side limits past
   parts = ready_parts side limits past ready
 
   by_turn : (turn : Bool) → is_out_of_turn side past ≡ turn → IsBalanced side limits (Take frame ∷ past)
@@ -156,16 +161,18 @@ balanced_take side limits past frame b ready = by_turn (is_out_of_turn side past
       ap (λ (t : Bool). cond t (credits_held side past) (min 65535 (credits_held side past + credits_in (peer_of side) (is_unheard past) frame))) is in
       let earned_is : credits_earned side (Take frame ∷ past) ≡ credits_earned side past =
       ap (λ (t : Bool). cond t (credits_earned side past) (credits_earned side past + credits_in (peer_of side) (is_unheard past) frame)) is in
-      let early : is_some (take_fault side limits past frame) ≡ false → ⊥ = λ h. (let other : is_out_of_turn side past ≡ false = in_turn side limits past frame h in absurd cc) in
+      let closed : is_closed side limits (Take frame ∷ past) ≡ true =
+      ap (λ (o : Option TakeFault). is_some o && not (is_version_fault o && is_server side && is_silent past)) (out_of_turn side limits past frame is) in
+      let early : is_closed side limits (Take frame ∷ past) ≡ false → ⊥ = λ h. (let other = closed in cc) in
       record {
         granted = b.granted;
         taken = omega (arith, b.taken, taken_is);
         posted = omega (arith, b.posted, taken_is);
-        reposted = λ cut refused. absurd (early refused);
+        reposted = λ cut h. absurd (early h);
         spent = omega (arith, b.spent, held_is, earned_is);
         silent_granted = b.silent_granted;
         silent_held = λ h. omega (arith, b.silent_held h, held_is);
-        heard_taken = λ h refused. absurd (early refused);
+        heard_taken = λ h still. absurd (early still);
       }
   by_turn false is =
       let taken_is : frames_taken side (Take frame ∷ past) ≡ frames_taken side past + 1 = ap (λ (t : Bool). cond t (frames_taken side past) (frames_taken side past + 1)) is in
@@ -173,17 +180,17 @@ balanced_take side limits past frame b ready = by_turn (is_out_of_turn side past
       ap (λ (t : Bool). cond t (credits_held side past) (min 65535 (credits_held side past + credits_in (peer_of side) (is_unheard past) frame))) is in
       let earned_is : credits_earned side (Take frame ∷ past) ≡ credits_earned side past + credits_in (peer_of side) (is_unheard past) frame =
       ap (λ (t : Bool). cond t (credits_earned side past) (credits_earned side past + credits_in (peer_of side) (is_unheard past) frame)) is in
-      let none : receives_due past ≡ 0 = rw parts.1 refl in
+      let none : receives_due past ≡ 0 = rw parts.post_due refl in
       let left : 1 ≤ receives_outstanding side past = some_left (is_early side past) (receives_outstanding side past) is in
       record {
         granted = b.granted;
         taken = omega (arith, b.taken, taken_is);
         posted = omega (arith, b.posted, taken_is);
-        reposted = λ cut refused. omega (arith, b.reposted parts.0.cut parts.0.refused, taken_is);
+        reposted = λ cut closed. omega (arith, b.reposted parts.going.cut parts.going.closed, taken_is);
         spent = omega (arith, b.spent, held_is, earned_is);
         silent_granted = b.silent_granted;
         silent_held = λ h. omega (arith, b.silent_held h, held_is);
-        heard_taken = λ h refused. omega (arith, taken_is);
+        heard_taken = λ h closed. omega (arith, taken_is);
       }
 
 -- ---- all events

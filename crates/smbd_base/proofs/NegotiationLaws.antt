@@ -1,5 +1,5 @@
 -- What written negotiation messages read as, and which fields have no fault.
-use Rattle.std.proofs.Common.{◌≡◌, ℕ, ◌+◌, ◌≤◌, ◌==◌, Bool, true, false, not, ◌||◌, nat_lt, min, List, [], ◌++◌, length, take, drop, if◌then◌else◌, None, Some, Ok, refl, ap, sym, ◌∙◌, lit≤, lit<, arith}
+use Rattle.std.proofs.Common.{◌≡◌, ℕ, ◌+◌, ◌<◌, ◌≤◌, ◌==◌, Bool, true, false, not, ◌||◌, nat_lt, List, [], ◌++◌, length, take, drop, if◌then◌else◌, None, Some, Ok, refl, ap, sym, ◌∙◌, lit≤, lit<, arith}
 use Rattle.std.proofs.lemmas.List.{get_or_append_left, length-append}
 use Rattle.std.proofs.lemmas.Bool.{cond-false}
 use Rattle.std.proofs.lemmas.Bool.Decides.{nat_tests}
@@ -9,7 +9,6 @@ use Rattle.smbd_base.specs.Fields.{u16_at, u32_at}
 use Rattle.smbd_base.specs.Grant.{credits_in}
 use Rattle.smbd_base.specs.Limits.{Limits, IsLawful}
 use Rattle.smbd_base.specs.NegotiateMessages.{Request, Response, request_fields, response_fields, request_bytes, response_bytes, request_fault, response_fault, fault_in_request, fault_in_response, read_request_of, read_response_of, fields_or_fault, request_of_limits, answer_to, refusing_response, IsLawfulRequest, IsLawfulResponse, RequestFits, ResponseFits, IsLawfulAgreement, agreed_with_client, agreed_with_server}
-use Rattle.smbd_base.specs.Negotiation.{response_text}
 use Rattle.smbd_base.proofs.FrameLaws.{u16_at-append, u32_at-append}
 
 -- ---- the fields of written bytes
@@ -226,6 +225,24 @@ pub lawful_answer : (client server : Limits) (grantable : ℕ) → IsLawful clie
 lawful_answer client server grantable asks answers some =
     lawful_answer_to client server (request_of_limits client) grantable answers (lawful_request_of_limits client asks) some (omega arith) (omega arith)
 
+-- what a server answers fits its fields
+pub fits-answer : (server : Limits) (request : Request) (grantable : ℕ) → IsLawful server → grantable < 65536 → ResponseFits (answer_to request server grantable)
+fits-answer server request grantable answers small =
+    let credits = answers.credits in let send = answers.send_size in
+    let receive = answers.receive_size in let fragmented = answers.fragmented_size in
+    record {
+      min_version = lit< tt;
+      max_version = lit< tt;
+      negotiated_version = lit< tt;
+      credits_requested = omega arith;
+      credits_granted = omega arith;
+      status = lit< tt;
+      max_read_write_size = lit< tt;
+      preferred_send_size = omega arith;
+      max_receive_size = omega arith;
+      max_fragmented_size = omega arith;
+    }
+
 pub answer_fits : (client server : Limits) (grantable : ℕ) → IsLawful client → IsLawful server
     → ResponseFits (answer_to (request_of_limits client) server grantable)
 answer_fits client server grantable asks answers =
@@ -333,11 +350,3 @@ pub lawful_agreement_with_server : (limits : Limits) (response : Response) → I
 lawful_agreement_with_server limits response own lawful =
     let send = own.send_size in let receive = lawful.max_receive_size in
     record { send_size = (omega arith, omega arith); message_max = lawful.max_fragmented_size; credits_requested = lawful.credits_requested }
-
--- ---- ends of the same limits
-
-pub response_text-answer : (limits : Limits) (grantable : ℕ) → limits.credits ≤ grantable
-    → response_bytes (answer_to (request_of_limits limits) limits grantable) ≡ response_text limits
-response_text-answer limits grantable enough =
-    let all : min limits.credits grantable ≡ limits.credits = omega arith in
-    rw all refl

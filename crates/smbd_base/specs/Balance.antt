@@ -4,7 +4,7 @@ use Rattle.smbd_base.specs.declared.end_id.EndId.{EndId}
 use Rattle.smbd_base.specs.declared.event.Event.{Event}
 use Rattle.smbd_base.specs.Limits.{Limits}
 use Rattle.smbd_base.specs.Counts.{receives_posted, frames_sent, frames_taken, credits_granted, credits_earned, credits_held, is_silent, is_unheard}
-use Rattle.smbd_base.specs.History.{is_cut, is_refused, is_post_due}
+use Rattle.smbd_base.specs.History.{is_cut, is_closed, is_post_due}
 
 -- the receives that are still to be posted anew
 abbrev pub receives_due : List Event → ℕ
@@ -18,7 +18,7 @@ pub record IsBalanced (side : EndId) (limits : Limits) (past : List Event) : Typ
   -- no more receives are posted and unused than the end has credits
   pub posted : receives_posted past ≤ frames_taken side past + limits.credits
   -- and while the end is open there are just so many, but for one that is due
-  pub reposted : is_cut past ≡ false → is_refused side limits past ≡ false
+  pub reposted : is_cut past ≡ false → is_closed side limits past ≡ false
       → receives_posted past + receives_due past ≡ frames_taken side past + limits.credits
   -- what was sent and what is held was earned
   pub spent : frames_sent past + credits_held side past ≤ credits_earned side past
@@ -26,4 +26,4 @@ pub record IsBalanced (side : EndId) (limits : Limits) (past : List Event) : Typ
   pub silent_granted : is_silent past ≡ true → credits_granted side past ≡ 1
   pub silent_held : is_silent past ≡ true → 1 ≤ credits_held side past
   -- the first frame used a receive
-  pub heard_taken : is_unheard past ≡ false → is_refused side limits past ≡ false → 1 ≤ frames_taken side past
+  pub heard_taken : is_unheard past ≡ false → is_closed side limits past ≡ false → 1 ≤ frames_taken side past

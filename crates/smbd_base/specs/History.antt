@@ -1,8 +1,7 @@
 -- What comes next at an end, and which events may follow (MS-SMBD 3.1.5; when a frame goes out, what it grants and
 -- when it asks for a response are this project's own). A past is a list of events, the newest one first.
-use Rattle.std.specs.Prelude.{◌≡◌, ℕ, ◌-◌, ◌%◌, ◌==◌, ◌+◌, nat_lt, nat_le, nat_eq, min, Bool, true, false, not, ◌||◌, ◌&&◌, is_some, is_none, Option, Some, None, Result, Ok, Err, List, [], ◌∷◌, ◌++◌, length, drop, if◌then◌else◌}
+use Rattle.std.specs.Prelude.{◌≡◌, ℕ, ◌-◌, ◌%◌, ◌==◌, ◌+◌, nat_lt, nat_le, Bool, true, false, not, ◌||◌, ◌&&◌, is_some, is_none, Option, Some, None, Result, Ok, Err, List, [], ◌∷◌, ◌++◌, length, drop, if◌then◌else◌}
 use Rattle.std.specs.List.{flat_map}
-use lib.Pointwise.{pointwise}
 use Rattle.smbd_base.specs.declared.agreed.Agreed.{Agreed}
 use Rattle.smbd_base.specs.declared.end_id.EndId.{EndId}
 use Rattle.smbd_base.specs.declared.end_id.EndId.TheVariants.{Client, Server}
@@ -11,30 +10,30 @@ use Rattle.smbd_base.specs.declared.event.Event.TheVariants.{Post, Submit, Emit,
 use Rattle.smbd_base.specs.declared.next.Next.{Next}
 use Rattle.smbd_base.specs.declared.next.Next.TheVariants as due
 use Rattle.smbd_base.specs.declared.faults.FrameFault.{FrameFault}
+use Rattle.smbd_base.specs.declared.faults.NegotiateFault.{NegotiateFault}
+use Rattle.smbd_base.specs.declared.faults.NegotiateFault.TheVariants as negotiation
 use Rattle.smbd_base.specs.declared.faults.Broken.{Broken}
 use Rattle.smbd_base.specs.declared.faults.TakeFault.{TakeFault}
 use Rattle.smbd_base.specs.declared.faults.TakeFault.TheVariants as faults
 use Rattle.smbd_base.specs.declared.faults.SubmitFault.{SubmitFault}
 use Rattle.smbd_base.specs.declared.faults.SubmitFault.TheVariants as refusals
 use Rattle.smbd_base.specs.Limits.{Limits}
-use Rattle.smbd_base.specs.Negotiation.{request_text, response_text}
+use Rattle.smbd_base.specs.NegotiateMessages.{request_fault, request_fields, request_bytes, request_of_limits, response_fault, response_fields, response_bytes, answer_to, refusing_response, agreed_with_client, agreed_with_server}
 use Rattle.smbd_base.specs.DataFrame.{DataFrame, data_frame_of, frame_bytes}
 use Rattle.smbd_base.specs.Pieces.{Piece, pieces_of, gather_fault}
 use Rattle.smbd_base.specs.Counts.{receives_outstanding, receives_grantable, credits_held, is_silent, is_unheard, is_out_of_turn}
 
--- ---- the frames of the negotiation
-
--- the negotiation message with which an end opens
-abbrev pub opening_frame : EndId → Limits → List ℕ
-opening_frame Client limits = request_text limits
-opening_frame Server limits = response_text limits
-
--- the negotiation message with which the peer opens
-abbrev pub awaited_frame : EndId → Limits → List ℕ
-awaited_frame Client limits = response_text limits
-awaited_frame Server limits = request_text limits
-
 -- ---- when a frame is refused
+
+-- why a negotiation message is no such message: a server takes a request, and a client a response
+abbrev pub negotiation_fault : EndId → Limits → List ℕ → Option NegotiateFault
+negotiation_fault Client limits frame = response_fault limits frame
+negotiation_fault Server limits frame = request_fault frame
+
+-- why a negotiation message is refused
+abbrev pub negotiate_fault : Option NegotiateFault → Option TakeFault
+negotiate_fault None = None
+negotiate_fault (Some fault) = Some (faults.Negotiate fault)
 
 -- why a piece that does not fit is refused
 abbrev pub broken_fault : Option Broken → Option TakeFault
@@ -52,7 +51,7 @@ unfoldable pub fault_expecting : ℕ → EndId → Limits → List Event → Lis
 fault_expecting expected side limits past frame =
     if is_out_of_turn side past then Some faults.OutOfTurn
     else if nat_lt limits.receive_size (length frame) then Some (faults.Oversize (length frame) limits.receive_size)
-    else if is_unheard past then (if pointwise nat_eq frame (awaited_frame side limits) then None else Some faults.NotFixed)
+    else if is_unheard past then negotiate_fault (negotiation_fault side limits frame)
     else data_fault limits.fragmented_size expected (data_frame_of frame)
 
 -- the bytes that are expected after a data transfer message: what remains after its piece, where it has one
@@ -104,6 +103,43 @@ is_refused side limits (Emit f ∷ past) = is_refused side limits past
 is_refused side limits (Take f ∷ past) = is_some (take_fault side limits past f)
 is_refused side limits (Cut ∷ past) = is_refused side limits past
 
+-- the fault is that of another version
+abbrev pub is_version : NegotiateFault → Bool
+is_version negotiation.Short = false
+is_version negotiation.Version = true
+is_version negotiation.Credits = false
+is_version negotiation.Granted = false
+is_version negotiation.SendSize = false
+is_version negotiation.ReceiveSize = false
+is_version negotiation.FragmentedSize = false
+is_version negotiation.Status = false
+
+abbrev pub is_version_fault : Option TakeFault → Bool
+is_version_fault None = false
+is_version_fault (Some faults.OutOfTurn) = false
+is_version_fault (Some (faults.Oversize len limit)) = false
+is_version_fault (Some (faults.Negotiate fault)) = is_version fault
+is_version_fault (Some (faults.Frame fault)) = false
+is_version_fault (Some (faults.Gather broken)) = false
+is_version_fault (Some faults.NoMemory) = false
+
+abbrev pub is_server : EndId → Bool
+is_server Client = false
+is_server Server = true
+
+-- the last frame that was taken was refused by a server, as a request of another version
+abbrev pub is_version_refused : EndId → Limits → List Event → Bool
+is_version_refused side limits [] = false
+is_version_refused side limits (Post n ∷ past) = is_version_refused side limits past
+is_version_refused side limits (Submit m ∷ past) = is_version_refused side limits past
+is_version_refused side limits (Emit f ∷ past) = is_version_refused side limits past
+is_version_refused side limits (Take f ∷ past) = is_version_fault (take_fault side limits past f) && is_server side
+is_version_refused side limits (Cut ∷ past) = is_version_refused side limits past
+
+-- Nothing but a cut may follow: a frame was refused. A server that refused a version first sends its refusing response.
+abbrev pub is_closed : EndId → Limits → List Event → Bool
+is_closed side limits past = is_refused side limits past && not (is_version_refused side limits past && is_silent past)
+
 -- a frame was taken, and the receive that it used was not posted anew
 abbrev pub is_post_due : List Event → Bool
 is_post_due [] = false
@@ -126,6 +162,40 @@ is_welcomed side limits (Cut ∷ past) = is_welcomed side limits past
 -- a client is agreed once it has taken the response, and a server once it has sent it
 abbrev pub is_agreed : EndId → Limits → List Event → Bool
 is_agreed side limits past = is_welcomed side limits past && not (is_silent past)
+
+-- ---- the negotiation
+
+-- the negotiation message of the peer: the first frame that was taken, and no bytes where none was
+abbrev pub peer_opening : List Event → List ℕ
+peer_opening [] = []
+peer_opening (Post n ∷ past) = peer_opening past
+peer_opening (Submit m ∷ past) = peer_opening past
+peer_opening (Emit f ∷ past) = peer_opening past
+peer_opening (Take f ∷ past) = if is_unheard past then f else peer_opening past
+peer_opening (Cut ∷ past) = peer_opening past
+
+-- The negotiation message with which an end opens. A client requests. A server responds to the request that it took:
+-- one of another version it refuses, and else it grants the smaller of what was asked for and what can be granted.
+abbrev pub opening_frame : EndId → Limits → List Event → List ℕ
+opening_frame Client limits past = request_bytes (request_of_limits limits)
+opening_frame Server limits past =
+    if is_version_refused Server limits past then response_bytes refusing_response
+    else response_bytes (answer_to (request_fields (peer_opening past)) limits (receives_grantable Server past))
+
+-- what an end settles with the peer of this negotiation message
+abbrev pub settled_by : EndId → Limits → List ℕ → Agreed
+settled_by Client limits frame = agreed_with_server limits (response_fields frame)
+settled_by Server limits frame = agreed_with_client limits (request_fields frame)
+
+-- what the peer's negotiation message settles
+abbrev pub settled : EndId → Limits → List Event → Agreed
+settled side limits past = settled_by side limits (peer_opening past)
+
+-- what the negotiation has settled, once the end is agreed
+abbrev pub agreed_of : EndId → Limits → List Event → Option Agreed
+agreed_of side limits past = if is_agreed side limits past then Some (settled side limits past) else None
+
+-- ---- what is owed
 
 -- the message asks for a response
 abbrev pub asks : Result DataFrame FrameFault → Bool
@@ -166,21 +236,17 @@ pieces_sent (Emit f ∷ past) = if not (is_silent past) && carries (data_frame_o
 pieces_sent (Take f ∷ past) = pieces_sent past
 pieces_sent (Cut ∷ past) = pieces_sent past
 
--- the longest frame that the end sends: no longer than it prefers, and than the peer receives
-abbrev pub send_size : Limits → ℕ
-send_size limits = min limits.send_size limits.receive_size
-
--- the bytes of a message that one frame carries
-abbrev pub payload_size : Limits → ℕ
-payload_size limits = send_size limits - 24
+-- the bytes of a message that one frame carries: as many as the longest frame that the end sends, but for 24
+abbrev pub payload_size : EndId → Limits → List Event → ℕ
+payload_size side limits past = (settled side limits past).send_size - 24
 
 -- the longest message that may be submitted: what every end gathers at least, and, once the end is agreed, what its peer gathers
 abbrev pub message_limit : EndId → Limits → List Event → ℕ
-message_limit side limits past = if is_agreed side limits past then limits.fragmented_size else 131072
+message_limit side limits past = if is_agreed side limits past then (settled side limits past).message_max else 131072
 
 -- the pieces of the submitted messages that are still to be sent, the next one first
-abbrev pub pieces_waiting : Limits → List Event → List Piece
-pieces_waiting limits past = drop (pieces_sent past) (flat_map (pieces_of (payload_size limits)) (messages_submitted past))
+abbrev pub pieces_waiting : EndId → Limits → List Event → List Piece
+pieces_waiting side limits past = drop (pieces_sent past) (flat_map (pieces_of (payload_size side limits past)) (messages_submitted past))
 
 -- ---- when a frame is sent, and what it holds
 
@@ -209,20 +275,20 @@ abbrev pub is_sending : EndId → Limits → List Event → Bool
 is_sending side limits past =
     is_agreed side limits past
     && sends (credits_held side past) (receives_outstanding side past) (receives_grantable side past)
-    (not (length (pieces_waiting limits past) == 0)) (is_response_owed past)
+    (not (length (pieces_waiting side limits past) == 0)) (is_response_owed past)
 
 -- the data transfer message that it sends
 abbrev pub frame_due : EndId → Limits → List Event → List ℕ
-frame_due side limits past = data_frame_due limits (credits_held side past) (receives_grantable side past) (pieces_waiting limits past)
+frame_due side limits past = data_frame_due limits (credits_held side past) (receives_grantable side past) (pieces_waiting side limits past)
 
 -- what comes next: the first of these that applies
 unfoldable pub next_event : EndId → Limits → List Event → Next
 next_event side limits past =
     if is_cut past then due.Idle
     else if is_new past then due.Post limits.credits
-    else if is_refused side limits past then due.Close
+    else if is_closed side limits past then due.Close
     else if is_post_due past then due.Post 1
-    else if is_opening side past then due.Emit (opening_frame side limits)
+    else if is_opening side past then due.Emit (opening_frame side limits past)
     else if is_sending side limits past then due.Emit (frame_due side limits past)
     else due.Idle
 
@@ -263,17 +329,3 @@ due_event (due.Post n) = Some (Post n)
 due_event (due.Emit f) = Some (Emit f)
 due_event due.Close = None
 due_event due.Idle = None
-
--- what the negotiation settled, once the end is agreed; a client is told the peer's MaxReadWriteSize
-abbrev pub read_write_max : EndId → Option ℕ
-read_write_max Client = Some 1048576
-read_write_max Server = None
-
-abbrev pub agreed_of : EndId → Limits → List Event → Option Agreed
-agreed_of side limits past =
-    if is_agreed side limits past then Some (record {
-      send_size = send_size limits;
-      message_max = limits.fragmented_size;
-      read_write_max = read_write_max side;
-      credits_requested = limits.credits;
-    }) else None

@@ -2,7 +2,6 @@ pub mod Fields
 pub mod Grant
 pub mod Limits
 pub mod DataFrame
-pub mod Negotiation
 pub mod NegotiateMessages
 pub mod Pieces
 pub mod Counts

@@ -9,14 +9,13 @@ use Rattle.smbd_base.specs.declared.faults.TakeFault.TheVariants as faults
 use Rattle.smbd_base.specs.declared.faults.SubmitFault.TheVariants as refusals
 use Rattle.smbd_base.specs.declared.faults.FrameFault.TheVariants.{Short}
 use Rattle.smbd_base.specs.Limits.{Limits, usual_limits}
-use Rattle.smbd_base.specs.Negotiation.{request_text, response_text}
 use Rattle.smbd_base.specs.DataFrame.{frame_bytes}
 use Rattle.smbd_base.specs.declared.faults.NegotiateFault.TheVariants as negotiate_faults
 use Rattle.smbd_base.specs.NegotiateMessages.{request_of_limits, request_fault, read_request_of, request_bytes, answer_to, response_fault, read_response_of, response_bytes, refusing_response, agreed_with_client, agreed_with_server}
 use Rattle.smbd_base.specs.declared.faults.Broken.TheVariants as broken
 use Rattle.smbd_base.specs.Pieces.{pieces_of, gather_fault}
 use Rattle.smbd_base.specs.Counts.{receives_outstanding, receives_grantable, credits_held, frames_taken}
-use Rattle.smbd_base.specs.History.{next_event, take_fault, submit_fault, bytes_expected, message_limit}
+use Rattle.smbd_base.specs.History.{next_event, take_fault, submit_fault, bytes_expected, message_limit, agreed_of}
 use Rattle.smbd_base.specs.Delivery.{messages_delivered}
 
 -- the negotiate request of the usual limits
@@ -80,14 +79,14 @@ pub record RefusesSo : Type 0 where
   pub early : take_fault Client usual_limits (Post 255 ∷ []) response ≡ Some faults.OutOfTurn
   pub uncounted : frames_taken Client (Take response ∷ Post 255 ∷ []) ≡ 0
   -- a server whose first frame is no request refuses it, and can then only be cut
-  pub unexpected : take_fault Server usual_limits (Post 255 ∷ []) abc_frame ≡ Some faults.NotFixed
-  pub closes : next_event Server usual_limits (Take abc_frame ∷ Post 255 ∷ []) ≡ due.Close
-  pub closed : submit_fault Server usual_limits (Take abc_frame ∷ Post 255 ∷ []) abc ≡ Some refusals.Closed
+  pub unexpected : take_fault Server usual_limits (Post 255 ∷ []) abc ≡ Some (faults.Negotiate negotiate_faults.Short)
+  pub closes : next_event Server usual_limits (Take abc ∷ Post 255 ∷ []) ≡ due.Close
+  pub closed : submit_fault Server usual_limits (Take abc ∷ Post 255 ∷ []) abc ≡ Some refusals.Closed
   -- bytes that are no data transfer message
   pub short : take_fault Server usual_limits (Post 1 ∷ agreed_server) abc ≡ Some (faults.Frame Short)
   -- nothing comes after a cut
   pub cut : next_event Client usual_limits (Cut ∷ agreed_client) ≡ due.Idle
-  pub cut_refused : next_event Server usual_limits (Cut ∷ Take abc_frame ∷ Post 255 ∷ []) ≡ due.Idle
+  pub cut_refused : next_event Server usual_limits (Cut ∷ Take abc ∷ Post 255 ∷ []) ≡ due.Idle
   pub cut_submit : submit_fault Client usual_limits (Cut ∷ agreed_client) abc ≡ Some refusals.Closed
   pub empty_submit : submit_fault Client usual_limits agreed_client [] ≡ Some refusals.Empty
 
@@ -112,14 +111,20 @@ third_frame = frame_bytes 3 1 false 0 (replicate 320 7)
 abbrev empty_frame : ℕ → List ℕ
 empty_frame granted = 3 ∷ 0 ∷ granted ∷ 0 ∷ replicate 16 0
 
+abbrev three_request : List ℕ
+three_request = request_bytes (request_of_limits three)
+
+abbrev three_response : List ℕ
+three_response = response_bytes (answer_to (request_of_limits three) three 3)
+
 abbrev three_client : List Event
-three_client = Post 1 ∷ Take (response_text three) ∷ Emit (request_text three) ∷ Post 3 ∷ []
+three_client = Post 1 ∷ Take three_response ∷ Emit three_request ∷ Post 3 ∷ []
 
 abbrev two_sent : List Event
 two_sent = Emit second_frame ∷ Emit first_frame ∷ Submit long ∷ three_client
 
 abbrev three_server : List Event
-three_server = Emit (response_text three) ∷ Post 1 ∷ Take (request_text three) ∷ Post 3 ∷ []
+three_server = Emit three_response ∷ Post 1 ∷ Take three_request ∷ Post 3 ∷ []
 
 pub record CreditsSo : Type 0 where
   -- with nothing to send, the client lets the server have credits: its peer has none left
@@ -221,3 +226,73 @@ pub record NegotiatesSo : Type 0 where
       ≡ record { send_size = 1364; message_max = 1048576; read_write_max = None; credits_requested = 255 }
   pub client_agreed : agreed_with_server usual_limits (answer_to (request_of_limits usual_limits) usual_limits 255)
       ≡ record { send_size = 1364; message_max = 1048576; read_write_max = Some 1048576; credits_requested = 255 }
+
+-- a request of version 0x0200
+abbrev newer_request : List ℕ
+newer_request = with_u16 0 512 (with_u16 2 512 request)
+
+abbrev newer_taken : List Event
+newer_taken = Take newer_request ∷ Post 255 ∷ []
+
+-- how an end refuses a negotiation message
+pub record DeclinesSo : Type 0 where
+  -- a server refuses another version, posts the receive anew, sends the refusing response, and can then only be cut
+  pub newer : take_fault Server usual_limits (Post 255 ∷ []) newer_request ≡ Some (faults.Negotiate negotiate_faults.Version)
+  pub reposts : next_event Server usual_limits newer_taken ≡ due.Post 1
+  pub responds : next_event Server usual_limits (Post 1 ∷ newer_taken) ≡ due.Emit refusal
+  pub held : credits_held Server (Emit refusal ∷ Post 1 ∷ newer_taken) ≡ 0
+  pub closes : next_event Server usual_limits (Emit refusal ∷ Post 1 ∷ newer_taken) ≡ due.Close
+  pub unsettled : agreed_of Server usual_limits (Emit refusal ∷ Post 1 ∷ newer_taken) ≡ None
+  -- meanwhile it accepts no message, and a cut ends it at once
+  pub closed : submit_fault Server usual_limits newer_taken abc ≡ Some refusals.Closed
+  pub cut : next_event Server usual_limits (Cut ∷ newer_taken) ≡ due.Idle
+  -- a client that takes this response refuses it, and sends none
+  pub refused : take_fault Client usual_limits (Emit request ∷ Post 255 ∷ []) refusal ≡ Some (faults.Negotiate negotiate_faults.Status)
+  pub client_closes : next_event Client usual_limits (Take refusal ∷ Emit request ∷ Post 255 ∷ []) ≡ due.Close
+  -- a request without credits is refused, and is not responded to
+  pub no_credits : take_fault Server usual_limits (Post 255 ∷ []) (with_u16 6 0 request) ≡ Some (faults.Negotiate negotiate_faults.Credits)
+  pub silent : next_event Server usual_limits (Take (with_u16 6 0 request) ∷ Post 255 ∷ []) ≡ due.Close
+  -- a client refuses a response of another version, and sends no refusal
+  pub other_version : take_fault Client usual_limits (Emit request ∷ Post 255 ∷ []) (with_u16 4 257 response) ≡ Some (faults.Negotiate negotiate_faults.Version)
+  pub no_response : next_event Client usual_limits (Take (with_u16 4 257 response) ∷ Emit request ∷ Post 255 ∷ []) ≡ due.Close
+
+-- a client of 3 credits that receives 128 bytes at a time, and a server of 5 that receives 512
+abbrev small_client : Limits
+small_client = record { credits = 3; send_size = 8192; receive_size = 128; fragmented_size = 131072; pages = 16 }
+
+abbrev large_server : Limits
+large_server = record { credits = 5; send_size = 4096; receive_size = 512; fragmented_size = 200000; pages = 16 }
+
+abbrev small_request : List ℕ
+small_request = request_bytes (request_of_limits small_client)
+
+abbrev large_response : List ℕ
+large_response = response_bytes (answer_to (request_of_limits small_client) large_server 5)
+
+abbrev small_agreed : List Event
+small_agreed = Post 1 ∷ Take large_response ∷ Emit small_request ∷ Post 3 ∷ []
+
+abbrev large_agreed : List Event
+large_agreed = Emit large_response ∷ Post 1 ∷ Take small_request ∷ Post 5 ∷ []
+
+-- what two ends of unequal limits settle
+pub record SettlesSo : Type 0 where
+  pub requests : next_event Client small_client (Post 3 ∷ []) ≡ due.Emit small_request
+  pub request_taken : take_fault Server large_server (Post 5 ∷ []) small_request ≡ None
+  pub responds : next_event Server large_server (Post 1 ∷ Take small_request ∷ Post 5 ∷ []) ≡ due.Emit large_response
+  pub response_taken : take_fault Client small_client (Emit small_request ∷ Post 3 ∷ []) large_response ≡ None
+  -- the client is granted the 3 credits that it asked for, and sends frames of 512 bytes and messages of 200,000
+  pub client_holds : credits_held Client small_agreed ≡ 3
+  pub client_agreed : agreed_of Client small_client small_agreed
+      ≡ Some (record { send_size = 512; message_max = 200000; read_write_max = Some 1048576; credits_requested = 5 })
+  pub first_piece : next_event Client small_client (Submit (replicate 500 7) ∷ small_agreed) ≡ due.Emit (frame_bytes 3 3 false 12 (replicate 488 7))
+  -- the server sends frames of 128 bytes and messages of 131,072, once it is granted a credit
+  pub server_granted : receives_outstanding Server large_agreed ≡ 3
+  pub server_grantable : receives_grantable Server large_agreed ≡ 2
+  pub server_agreed : agreed_of Server large_server large_agreed
+      ≡ Some (record { send_size = 128; message_max = 131072; read_write_max = None; credits_requested = 3 })
+  pub server_piece : next_event Server large_server (Submit (replicate 500 7) ∷ Post 1 ∷ Take (frame_bytes 3 3 false 0 abc) ∷ large_agreed)
+      ≡ due.Emit (frame_bytes 5 3 false 396 (replicate 104 7))
+  -- an end that is not agreed submits what every peer gathers
+  pub before : message_limit Client small_client (Emit small_request ∷ Post 3 ∷ []) ≡ 131072
+  pub after : message_limit Client small_client small_agreed ≡ 200000

@@ -66,9 +66,9 @@ pub enum TakeFault {
     /// The frame has more bytes than the end's MaxReceiveSize.
     #[error("a frame of {length} bytes is longer than {limit}")]
     Oversize { length: u64, limit: u32 },
-    /// The first frame is not the negotiation message that is expected.
-    #[error("not the expected negotiation message")]
-    NotFixed,
+    /// The first frame is no negotiation message that the end accepts.
+    #[error("{0}")]
+    Negotiate(NegotiateFault),
     /// It can't be read as a data transfer message.
     #[error("{0}")]
     Frame(FrameFault),

@@ -40,7 +40,7 @@ pub use limits::{EndLimits, LimitFault};
 pub use message::Message;
 pub use negotiation_laws::{
     agreements_are_lawful, later_bytes_change_nothing, messages_without_a_fault_are_lawful,
-    texts_of_equal_ends, written_requests_are_read, written_responses_are_read,
+    written_requests_are_read, written_responses_are_read,
 };
 pub use next::Next;
 pub use no_memory::NoMemory;

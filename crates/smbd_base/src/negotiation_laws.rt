@@ -6,7 +6,6 @@ ghost use Rattle.smbd_base.specs.declared.faults.NegotiateFault.TheVariants as f
 ghost use Rattle.smbd_base.specs.Grant.{credits_in};
 ghost use Rattle.smbd_base.specs.Limits.{Limits, IsLawful};
 ghost use Rattle.smbd_base.specs.NegotiateMessages.{Request, Response, request_bytes, response_bytes, read_request_of, read_response_of, response_fault, fault_in_request, fault_in_response, request_of_limits, answer_to, refusing_response, IsLawfulRequest, IsLawfulResponse, RequestFits, ResponseFits, IsLawfulAgreement, agreed_with_client, agreed_with_server};
-ghost use Rattle.smbd_base.specs.Negotiation.{request_text, response_text};
 
 /// A written request reads as what was written, and that of a client is one that each server accepts.
 pub fn written_requests_are_read()
@@ -49,11 +48,4 @@ pub fn agreements_are_lawful()
         IsLawfulAgreement (agreed_with_client limits request) }
     ensures client { (limits : Limits) (response : Response) → IsLawful limits → IsLawfulResponse limits response →
         IsLawfulAgreement (agreed_with_server limits response) }
-{}
-
-/// What two ends of the same limits write.
-pub fn texts_of_equal_ends()
-    ensures request { (limits : Limits) → request_bytes (request_of_limits limits) ≡ request_text limits }
-    ensures response { (limits : Limits) (grantable : ℕ) → limits.credits ≤ grantable →
-        response_bytes (answer_to (request_of_limits limits) limits grantable) ≡ response_text limits }
 {}

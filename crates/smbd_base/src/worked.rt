@@ -1,4 +1,4 @@
-ghost use Rattle.smbd_base.specs.Worked.{OpensSo, CarriesSo, RefusesSo, CreditsSo, CutsSo, GathersSo, NegotiatesSo};
+ghost use Rattle.smbd_base.specs.Worked.{OpensSo, CarriesSo, RefusesSo, CreditsSo, CutsSo, GathersSo, NegotiatesSo, DeclinesSo, SettlesSo};
 
 /// Worked histories: what comes next, what is counted and what is delivered in small examples.
 /// It does nothing. Its contract is proved by computation, and shows what the definitions say.
@@ -10,4 +10,6 @@ pub fn worked_histories()
     ensures pieces { CutsSo }
     ensures gathering { GathersSo }
     ensures negotiation { NegotiatesSo }
+    ensures declining { DeclinesSo }
+    ensures settling { SettlesSo }
 {}

@@ -7,7 +7,7 @@ use Rattle.smbd_outside.specs.declared.status.Status.TheVariants.{Done, Usage, R
 use Rattle.smbd_cli.specs.Promise.{Stream, KeepsPromise, IsFair, IsCopied}
 
 -- no more was read than there was
-read_most : (before now : Option (List ℕ)) (bytes read : List ℕ) → before ≡ Some bytes → Consumes before now read → length read ≤ length bytes
+pub read_most : (before now : Option (List ℕ)) (bytes read : List ℕ) → before ≡ Some bytes → Consumes before now read → length read ≤ length bytes
 read_most None now bytes read told c = absurd cc
 read_most (Some all) None bytes read told c = absurd c
 read_most (Some all) (Some left) bytes read told c =
@@ -15,7 +15,7 @@ read_most (Some all) (Some left) bytes read told c =
     omega (arith, length-append read left, ap length c, ap length same)
 
 -- what was read to the end is all that there was
-read_all : (before now : Option (List ℕ)) (bytes read : List ℕ) → before ≡ Some bytes → Consumes before now read → IsAtEnd now → read ≡ bytes
+pub read_all : (before now : Option (List ℕ)) (bytes read : List ℕ) → before ≡ Some bytes → Consumes before now read → IsAtEnd now → read ≡ bytes
 read_all None now bytes read told c at_end = absurd cc
 read_all (Some all) None bytes read told c at_end = absurd c
 read_all (Some all) (Some left) bytes read told c at_end =

@@ -1,5 +1,6 @@
 -- A message that goes over frame by frame.
 use Rattle.std.proofs.Common.{◌≡◌, ◌⊎◌, inl, inr, ℕ, ◌+◌, ◌-◌, ◌<◌, ◌≤◌, true, List, [], ◌∷◌, ◌++◌, length, take, Option, Some, None, option_to_list, refl, sym, ap, ◌∙◌, subst, append-nil, arith}
+use Rattle.std.specs.List.{flat_map}
 use Rattle.std.proofs.lemmas.Bool.{cases_lt}
 use Rattle.std.proofs.lemmas.List.{length-append}
 use Rattle.smbd_base.specs.declared.end_id.EndId.{EndId}
@@ -8,14 +9,16 @@ use Rattle.smbd_base.specs.declared.event.Event.TheVariants.{Post, Emit, Take}
 use Rattle.smbd_base.specs.declared.next.Next.TheVariants as due
 use Rattle.smbd_base.specs.Limits.{usual_limits}
 use Rattle.smbd_base.specs.Counts.{credits_held, peer_of}
-use Rattle.smbd_base.specs.History.{next_event, take_fault, messages_submitted, pieces_sent, frame_due, IsLegal}
+use Rattle.smbd_base.specs.Pieces.{pieces_of}
+use Rattle.smbd_base.specs.History.{next_event, take_fault, messages_submitted, pieces_sent, frame_due}
 use Rattle.smbd_base.specs.Delivery.{messages_delivered}
+use Rattle.smbd_base.specs.Joint.{emitted_frames, taken_frames}
 use Rattle.smbd_laws.proofs.Pacing.{delivered_pace}
 use Rattle.connection_core.specs.Shown.{Shown}
 use Rattle.smbd_cli.specs.Carried.{is_emit, with_past, CanTake, HasCarried}
-use Rattle.smbd_cli.specs.Settled.{GoesOn, pieces_of_all, AreBeside, AllFitPut, CanSend, HasSentOne}
+use Rattle.smbd_cli.specs.Settled.{GoesOn, pieces_of_all, IsSettled, AreBeside, AllFitPut, CanSend, HasSentOne}
 use Rattle.smbd_cli.proofs.Pieces.{HasMore, one_more, front_most, front_is, is_front, length-take_more}
-use Rattle.smbd_cli.proofs.Sending.{lawful, next-piece, fits_peer, HasGoneOver, gone_over, can_take, posts_after}
+use Rattle.smbd_cli.proofs.Sending.{lawful, agreed, longest_small, next-piece, fits_peer, HasGoneOver, gone_over, can_take, posts_after}
 
 -- the messages that the other end has delivered
 abbrev came : EndId → List Event → List (List ℕ)
@@ -85,10 +88,14 @@ pace : (side other : EndId) (from to : List Event) (messages : List (List ℕ)) 
     → pieces_sent from < length (pieces_of_all (take (n + 1) messages)) ⊎ length messages ≤ n
     → came other to ≡ take n messages
 pace side other from to messages n sides pair is =
-    let legal : IsLegal (peer_of other) usual_limits from = subst (λ (s : EndId). IsLegal s usual_limits from) (sym sides) pair.from_end.settled.legal in
+    let s : IsSettled (peer_of other) from = subst (λ (x : EndId). IsSettled x from) (sym sides) pair.from_end.settled in
+    let paced = delivered_pace other usual_limits usual_limits to from n lawful lawful s.legal pair.to_end.accepted pair.to_end.frames
+    (agreed (peer_of other) from s) (longest_small (peer_of other) from s) in
+    let usual = subst (λ (size : ℕ). length (flat_map (pieces_of size) (take n (messages_submitted from))) ≤ pieces_sent from
+    → pieces_sent from < length (flat_map (pieces_of size) (take (n + 1) (messages_submitted from))) ⊎ length (messages_submitted from) ≤ n
+    → came other to ≡ take n (messages_submitted from)) s.payload paced in
     subst (λ (ms : List (List ℕ)). length (pieces_of_all (take n ms)) ≤ pieces_sent from
-    → pieces_sent from < length (pieces_of_all (take (n + 1) ms)) ⊎ length ms ≤ n → came other to ≡ take n ms) is
-    (delivered_pace other usual_limits to from n lawful legal pair.to_end.accepted pair.to_end.frames)
+    → pieces_sent from < length (pieces_of_all (take (n + 1) ms)) ⊎ length ms ≤ n → came other to ≡ take n ms) is usual
 
 -- once the frame came, the message is still under way, or it was delivered
 outcome : (side other : EndId) (from to from_now to_now : List Event) (frame : List ℕ) → peer_of other ≡ side → CanSend side other from to
@@ -231,6 +238,10 @@ lands_next from to from_now to_now h f e =
       fault = rw (h.to_side, h.to_limits, h.sending.to_limits) fits;
       posts = rw (h.to_side, h.to_limits, h.sending.to_limits) (posts_after to.side to_now.past f settled fits);
     }
+
+-- nothing is in flight to the taker
+pub has_all : (from to from_now to_now : Shown) → IsInCourse from to from_now to_now → taken_frames to_now.past ≡ emitted_frames from_now.past
+has_all from to from_now to_now h = h.way.pair.to_end.frames
 
 -- the frame that was carried went over
 carried_over : (from to from_now to_now from_next to_next : Shown) (o : Option (List ℕ)) → IsInCourse from to from_now to_now

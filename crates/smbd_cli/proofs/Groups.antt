@@ -5,6 +5,7 @@ use Rattle.std.specs.List.{flat_map}
 use Rattle.std.proofs.lemmas.List.{take-append-le, drop-append-le, take-append-drop, length-drop, map-append}
 use Rattle.smbd_base.specs.declared.end_id.EndId.TheVariants.{Client, Server}
 use Rattle.smbd_base.specs.Fields.{u16_at, u32_at}
+use Rattle.smbd_base.specs.NegotiateMessages.{request_fault, fault_in_request, response_fault, fault_in_response}
 use Rattle.smbd_base.specs.History.{next_event, take_fault, fault_expecting}
 use Rattle.smbd_base.proofs.FrameLaws.{u16_at-append, u32_at-append}
 use Rattle.connection_core.specs.Shown.{Shown}
@@ -113,30 +114,30 @@ replies_are ended bytes short =
 -- ---- after the negotiation
 
 agreed_client_settled : IsSettled Client agreed_client
-unfolding next_event take_fault fault_expecting
-agreed_client_settled = record { legal = (refl, (refl, (refl, (refl, tt)))); cut = refl; opened = refl; refused = refl; post_due = refl; silent = refl; unheard = refl; welcomed = refl }
+unfolding next_event take_fault fault_expecting request_fault fault_in_request response_fault fault_in_response
+agreed_client_settled = record { legal = (refl, (refl, (refl, (refl, tt)))); cut = refl; opened = refl; refused = refl; post_due = refl; silent = refl; unheard = refl; welcomed = refl; payload = refl; longest = refl }
 
 agreed_server_settled : IsSettled Server agreed_server
-unfolding next_event take_fault fault_expecting
-agreed_server_settled = record { legal = (refl, (refl, (refl, (refl, tt)))); cut = refl; opened = refl; refused = refl; post_due = refl; silent = refl; unheard = refl; welcomed = refl }
+unfolding next_event take_fault fault_expecting request_fault fault_in_request response_fault fault_in_response
+agreed_server_settled = record { legal = (refl, (refl, (refl, (refl, tt)))); cut = refl; opened = refl; refused = refl; post_due = refl; silent = refl; unheard = refl; welcomed = refl; payload = refl; longest = refl }
 
 agreed_beside : AreBeside Client Server agreed_client agreed_server
-unfolding next_event take_fault fault_expecting
+unfolding next_event take_fault fault_expecting request_fault fault_in_request response_fault fault_in_response
 agreed_beside = record {
   from_end = record { settled = agreed_client_settled; accepted = (refl, tt); frames = refl; held = refl; credits = refl };
   to_end = record { settled = agreed_server_settled; accepted = (refl, tt); frames = refl; held = refl; credits = refl };
 }
 
 agreed_sent : HasSent Server agreed_client agreed_server
-unfolding next_event take_fault fault_expecting
+unfolding next_event take_fault fault_expecting request_fault fault_in_request response_fault fault_in_response
 agreed_sent = record { front = ([], refl); pieces = refl; fits = tt }
 
 agreed_replies_sent : HasSent Client agreed_server agreed_client
-unfolding next_event take_fault fault_expecting
+unfolding next_event take_fault fault_expecting request_fault fault_in_request response_fault fault_in_response
 agreed_replies_sent = record { front = ([], refl); pieces = refl; fits = tt }
 
 agreed_rest : AreAtRest agreed_client agreed_server
-unfolding next_event take_fault fault_expecting
+unfolding next_event take_fault fault_expecting request_fault fault_in_request response_fault fault_in_response
 agreed_rest = record {
   pair = agreed_beside;
   sent = agreed_sent;
@@ -150,7 +151,7 @@ agreed_rest = record {
 -- both ends after the negotiation are at rest, and nothing was put
 pub agreed_put : (client server client_now server_now : Shown) → client ≡ opened Client → server ≡ opened Server
     → client_now ≡ with_past client agreed_client → server_now ≡ with_past server agreed_server → HasPut client_now server_now false []
-unfolding groups take_fault fault_expecting
+unfolding groups take_fault fault_expecting request_fault fault_in_request response_fault fault_in_response
 agreed_put client server client_now server_now c s c' s' =
     let client_is : client_now ≡ with_past (opened Client) agreed_client = c' ∙ ap (λ (x : Shown). with_past x agreed_client) c in
     let server_is : server_now ≡ with_past (opened Server) agreed_server = s' ∙ ap (λ (x : Shown). with_past x agreed_server) s in

@@ -6,12 +6,13 @@ pub mod LineLemmas
 pub mod Logging
 pub mod Negotiating
 pub mod Pieces
+pub mod Plainly
 pub mod Promising
 pub mod Putting
 pub mod Resting
 pub mod Sending
 pub mod Sounding
+pub mod Stepping
 pub mod Submitting
 pub mod TurnEnds
 pub mod Turning
-pub mod Wording

@@ -3,11 +3,9 @@ use Rattle.std.proofs.Common.{◌≡◌, ℕ, zero, suc, ◌+◌, ◌-◌, ◌/�
 use Rattle.std.proofs.lemmas.List.{length-append, take-append-drop}
 use Rattle.std.proofs.lemmas.List.Concat.{flat_map-append}
 use mathlib.Core.List.{IsPrefix}
-use Rattle.smbd_base.specs.Limits.{usual_limits}
 use Rattle.smbd_base.specs.Pieces.{Piece, pieces_of, front_pieces, pieces_count}
-use Rattle.smbd_base.specs.History.{payload_size}
 use Rattle.smbd_laws.proofs.Joining.{pieces_of-whole}
-use Rattle.smbd_cli.specs.Settled.{pieces_of_all, FitsPut, AllFitPut}
+use Rattle.smbd_cli.specs.Settled.{usual_payload, pieces_of_all, FitsPut, AllFitPut}
 
 -- ---- one message
 
@@ -21,10 +19,10 @@ length-pieces_of size message = length-front_pieces (pieces_count size message) 
 
 -- the pieces of one message of a put
 abbrev pub own_pieces : List ℕ → List Piece
-own_pieces message = pieces_of (payload_size usual_limits) message
+own_pieces message = pieces_of usual_payload message
 
 some_pieces : (message : List ℕ) → FitsPut message → 0 < length (own_pieces message)
-some_pieces message fits = (pieces_of-whole (payload_size usual_limits) message (lit< tt) fits.some).some
+some_pieces message fits = (pieces_of-whole usual_payload message (lit< tt) fits.some).some
 
 few_pieces : (message : List ℕ) → FitsPut message → length (own_pieces message) ≤ 49
 few_pieces message fits =
@@ -60,7 +58,7 @@ one_more n messages less fit =
     let first = pieces_of_all (take n messages) in
     let all : pieces_of_all (take (n + 1) messages) ≡ first ++ own_pieces h.message =
     ap (λ (ms : List (List ℕ)). pieces_of_all ms) h.front
-    ∙ flat_map-append (pieces_of (payload_size usual_limits)) (take n messages) (h.message ∷ [])
+    ∙ flat_map-append (pieces_of usual_payload) (take n messages) (h.message ∷ [])
     ∙ ap (λ (ps : List Piece). first ++ ps) (append-nil (own_pieces h.message)) in
     let long : length (first ++ own_pieces h.message) ≡ length first + length (own_pieces h.message) = length-append first (own_pieces h.message) in
     let least = some_pieces h.message h.fits in
@@ -74,7 +72,7 @@ front_most n messages =
     let later = pieces_of_all (drop n messages) in
     let all : pieces_of_all messages ≡ first ++ later =
     ap (λ (ms : List (List ℕ)). pieces_of_all ms) (sym (take-append-drop n messages))
-    ∙ flat_map-append (pieces_of (payload_size usual_limits)) (take n messages) (drop n messages) in
+    ∙ flat_map-append (pieces_of usual_payload) (take n messages) (drop n messages) in
     let long : length (first ++ later) ≡ length first + length later = length-append first later in
     rw all (omega arith)
 

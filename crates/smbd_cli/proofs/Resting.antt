@@ -56,7 +56,7 @@ may_submit side past m s fits =
     let short = fits.short in
     let filled : (length m == 0) ≡ false = grind (arith, nat_tests) in
     let within : nat_lt 1048576 (length m) ≡ false = grind (arith, nat_tests) in
-    rw (s.cut, s.refused, s.opened, s.welcomed, s.silent, filled, within) refl
+    rw (s.cut, s.refused, s.opened, s.welcomed, s.silent, s.longest, filled, within) refl
 
 pub settled_submit : (side : EndId) (past : List Event) (m : List ℕ) → IsSettled side past → FitsPut m → IsSettled side (Submit m ∷ past)
 settled_submit side past m s fits = record {
@@ -68,6 +68,8 @@ settled_submit side past m s fits = record {
   silent = s.silent;
   unheard = s.unheard;
   welcomed = s.welcomed;
+  payload = s.payload;
+  longest = s.longest;
 }
 
 beside_own : (side other : EndId) (own peer : List Event) (m : List ℕ) → IsBeside side other own peer → FitsPut m → IsBeside side other (Submit m ∷ own) peer
@@ -217,6 +219,13 @@ server_side client server c1 s1 request a = ap (λ (e : Shown). e.side) a.server
 
 client_side : (client server c1 s1 : Shown) (request : List ℕ) → HasAsked client server c1 s1 request → c1.side ≡ Client
 client_side client server c1 s1 request a = ap (λ (e : Shown). e.side) a.client_is ∙ a.pair.client_side
+
+-- the server does not refuse the reply
+pub accepts_reply : (client server c1 s1 : Shown) (request reply : List ℕ) → HasAsked client server c1 s1 request → reply ≡ reply_for request
+    → submit_fault s1.side s1.limits s1.past reply ≡ None
+accepts_reply client server c1 s1 request reply a reply_is =
+    let limits : s1.limits ≡ usual_limits = ap (λ (e : Shown). e.limits) a.server_is ∙ a.pair.server_limits in
+    rw (server_side client server c1 s1 request a, limits, reply_is) (may_submit Server s1.past (reply_for request) a.over.pair.to_end.settled (fits_reply request))
 
 -- the server, once the reply was submitted
 pub replies : (client server c1 s1 s2 : Shown) (request reply : List ℕ) → HasAsked client server c1 s1 request → reply ≡ reply_for request

@@ -1,8 +1,8 @@
 -- A frame with a piece goes from one settled end to the other.
-use Rattle.std.proofs.Common.{◌≡◌, ℕ, ◌+◌, ◌<◌, ◌≤◌, ◌==◌, nat_le, min, Bool, true, false, not, ◌&&◌, cond, List, [], ◌∷◌, ◌++◌, length, None, refl, sym, ap, ◌∙◌, subst, append-nil, lit≤, lit<, arith}
+use Rattle.std.proofs.Common.{◌≡◌, ℕ, ◌+◌, ◌<◌, ◌≤◌, ◌==◌, nat_le, min, Bool, true, false, not, ◌&&◌, cond, List, [], ◌∷◌, ◌++◌, length, drop, None, refl, sym, ap, ◌∙◌, subst, append-nil, lit≤, lit<, arith}
 use Rattle.std.proofs.lemmas.Bool.Decides.{nat_tests}
 use Rattle.std.proofs.lemmas.List.Elements.{All-drop, All-head}
-use Rattle.std.specs.List.{All}
+use Rattle.std.specs.List.{All, flat_map}
 use Rattle.smbd_base.specs.declared.end_id.EndId.{EndId}
 use Rattle.smbd_base.specs.declared.end_id.EndId.TheVariants.{Client, Server}
 use Rattle.smbd_base.specs.declared.event.Event.{Event}
@@ -11,31 +11,37 @@ use Rattle.smbd_base.specs.declared.next.Next.TheVariants as due
 use Rattle.smbd_base.specs.Limits.{IsLawful, usual_limits}
 use Rattle.smbd_base.specs.DataFrame.{data_frame_of}
 use Rattle.smbd_base.specs.Grant.{credits_in}
-use Rattle.smbd_base.specs.Pieces.{Piece}
+use Rattle.smbd_base.specs.Pieces.{Piece, pieces_of}
 use Rattle.smbd_base.specs.Counts.{receives_posted, frames_taken, credits_granted, credits_held, receives_outstanding, receives_grantable, is_silent, is_unheard, is_out_of_turn, peer_of}
-use Rattle.smbd_base.specs.History.{next_event, take_fault, is_ready, is_opening, is_sending, is_agreed, is_response_owed, sends, carries, messages_submitted, pieces_sent, pieces_waiting, frame_due, data_frame_due, IsLegal}
+use Rattle.smbd_base.specs.History.{settled, next_event, take_fault, is_ready, is_opening, is_sending, is_agreed, is_response_owed, sends, carries, messages_submitted, pieces_sent, pieces_waiting, frame_due, data_frame_due, IsLegal}
 use Rattle.smbd_base.specs.Joint.{taken_frames}
 use Rattle.smbd_base.proofs.BalanceLemmas.{balanced, granted-data_frame_due}
 use Rattle.smbd_base.proofs.FrameLaws.{data_frame_of-filled}
 use Rattle.smbd_base.proofs.Inversion.{IsGoing, in_turn}
 use Rattle.smbd_base.proofs.NextLemmas.{next-sending, next-post}
 use Rattle.smbd_laws.proofs.Accepting.{accepted}
-use Rattle.smbd_laws.proofs.Submitting.{IsSendable, pieces_submitted, sendable}
-use Rattle.smbd_cli.specs.Settled.{pieces_of_all, IsSettled, AreBeside}
+use Rattle.smbd_laws.proofs.Joining.{IsPart}
+use Rattle.smbd_laws.proofs.Settling.{settles_own}
+use Rattle.smbd_laws.proofs.Submitting.{sendable}
+use Rattle.smbd_cli.specs.Settled.{usual_payload, pieces_of_all, IsSettled, AreBeside}
 use Rattle.smbd_cli.proofs.Pieces.{drops}
 
 pub lawful : IsLawful usual_limits
 lawful = record { credits = (lit≤ tt, lit≤ tt); send_size = (lit≤ tt, lit≤ tt); receive_size = (lit≤ tt, lit≤ tt); fragmented_size = (lit≤ tt, lit≤ tt); pages = (lit≤ tt, lit≤ tt) }
 
 going : (side : EndId) (past : List Event) → IsSettled side past → IsGoing side usual_limits past
-going side past s = record { cut = s.cut; opened = s.opened; refused = s.refused }
+going side past s = record { cut = s.cut; opened = s.opened; closed = rw s.refused refl }
 
-agreed : (side : EndId) (past : List Event) → IsSettled side past → is_agreed side usual_limits past ≡ true
+pub agreed : (side : EndId) (past : List Event) → IsSettled side past → is_agreed side usual_limits past ≡ true
 agreed side past s = rw (s.welcomed, s.silent) refl
 
 not_opening : (side : EndId) (past : List Event) → is_silent past ≡ false → is_opening side past ≡ false
 not_opening Client past spoken = spoken
 not_opening Server past spoken = rw spoken refl
+
+-- the length of a message fits its field
+pub longest_small : (side : EndId) (past : List Event) → IsSettled side past → (settled side usual_limits past).message_max < 4294967296
+longest_small side past s = rw s.longest (lit< tt)
 
 -- what the counts say, and that the grant is small
 record Counted (side : EndId) (past : List Event) : Type 0 where
@@ -59,19 +65,32 @@ holds_two held outstanding grantable owes two =
     let more : (held == 1) ≡ false = grind (arith, nat_tests) in
     rw (one, more) refl
 
+-- the pieces that wait are those of two ends of the usual limits
+waiting_is : (side : EndId) (past : List Event) → IsSettled side past
+    → pieces_waiting side usual_limits past ≡ drop (pieces_sent past) (pieces_of_all (messages_submitted past))
+waiting_is side past s = ap (λ (size : ℕ). drop (pieces_sent past) (flat_map (pieces_of size) (messages_submitted past))) s.payload
+
 -- while a piece waits, an end with two credits sends
 pub next-piece : (side : EndId) (past : List Event) → IsSettled side past → 2 ≤ credits_held side past → pieces_sent past < length (pieces_of_all (messages_submitted past))
     → next_event side usual_limits past ≡ due.Emit (frame_due side usual_limits past)
 next-piece side past s two waits =
     let d = drops (pieces_sent past) (pieces_of_all (messages_submitted past)) waits in
-    let waiting : pieces_waiting usual_limits past ≡ d.first ∷ d.later = d.is in
-    let some : (length (pieces_waiting usual_limits past) == 0) ≡ false = rw waiting (not_zero (length (d.first ∷ d.later)) (omega arith)) in
+    let waiting : pieces_waiting side usual_limits past ≡ d.first ∷ d.later = waiting_is side past s ∙ d.is in
+    let some : (length (pieces_waiting side usual_limits past) == 0) ≡ false = rw waiting (not_zero (length (d.first ∷ d.later)) (omega arith)) in
     let sending : is_sending side usual_limits past ≡ true =
     rw (agreed side past s, some) (holds_two (credits_held side past) (receives_outstanding side past) (receives_grantable side past) (is_response_owed past) two) in
     next-sending side usual_limits past (going side past s) s.post_due (not_opening side past s.silent) sending
 
+-- each piece of what was submitted may be sent
+parts : (side : EndId) (past : List Event) → IsSettled side past → All (IsPart usual_payload 1048576) (pieces_of_all (messages_submitted past))
+parts side past s =
+    let own = settled side usual_limits past in
+    let each = sendable side usual_limits past own s.legal (settles_own side usual_limits past lawful (agreed side past s) (longest_small side past s)) in
+    subst (λ (max : ℕ). All (IsPart usual_payload max) (pieces_of_all (messages_submitted past))) s.longest
+    (subst (λ (size : ℕ). All (IsPart size own.message_max) (flat_map (pieces_of size) (messages_submitted past))) s.payload each)
+
 -- the frame carries the piece
-carries_piece : (held grantable : ℕ) (p : Piece) (later : List Piece) → grantable < 65536 → IsSendable usual_limits p
+carries_piece : (held grantable : ℕ) (p : Piece) (later : List Piece) → grantable < 65536 → IsPart usual_payload 1048576 p
     → carries (data_frame_of (data_frame_due usual_limits held grantable (p ∷ later))) ≡ true
 carries_piece held grantable p later small fits =
     let flag = not (length later == 0) && nat_le held 2 in
@@ -93,14 +112,15 @@ emitted side past s two waits =
     let b = counted side past s in
     let frame = frame_due side usual_limits past in
     let d = drops (pieces_sent past) (pieces_of_all (messages_submitted past)) waits in
-    let waiting : pieces_waiting usual_limits past ≡ d.first ∷ d.later = d.is in
-    let fit : All (IsSendable usual_limits) (d.first ∷ d.later) =
-    subst (λ (ps : List Piece). All (IsSendable usual_limits) ps) waiting (All-drop (IsSendable usual_limits) (pieces_sent past) (pieces_submitted usual_limits past) (sendable side usual_limits past lawful s.legal)) in
+    let waiting : pieces_waiting side usual_limits past ≡ d.first ∷ d.later = waiting_is side past s ∙ d.is in
+    let fit : All (IsPart usual_payload 1048576) (d.first ∷ d.later) =
+    subst (λ (ps : List Piece). All (IsPart usual_payload 1048576) ps) d.is
+    (All-drop (IsPart usual_payload 1048576) (pieces_sent past) (pieces_of_all (messages_submitted past)) (parts side past s)) in
     let carried : carries (data_frame_of frame) ≡ true =
     subst (λ (ps : List Piece). carries (data_frame_of (data_frame_due usual_limits (credits_held side past) (receives_grantable side past) ps)) ≡ true) (sym waiting)
-    (carries_piece (credits_held side past) (receives_grantable side past) d.first d.later b.small (All-head (IsSendable usual_limits) d.first d.later fit)) in
+    (carries_piece (credits_held side past) (receives_grantable side past) d.first d.later b.small (All-head (IsPart usual_payload 1048576) d.first d.later fit)) in
     let grants : (any : EndId) → credits_in any false frame ≡ receives_grantable side past =
-    λ any. granted-data_frame_due any usual_limits (credits_held side past) (receives_grantable side past) (pieces_waiting usual_limits past) b.small in
+    λ any. granted-data_frame_due any usual_limits (credits_held side past) (receives_grantable side past) (pieces_waiting side usual_limits past) b.small in
     let grant : credits_in side (is_silent past) frame ≡ receives_grantable side past = ap (λ (t : Bool). credits_in side t frame) s.silent ∙ grants side in
     record {
       settled = record {
@@ -112,6 +132,8 @@ emitted side past s two waits =
         silent = refl;
         unheard = s.unheard;
         welcomed = s.welcomed;
+        payload = s.payload;
+        longest = s.longest;
       };
       grants = grants;
       sent = sent_by (is_silent past) (carries (data_frame_of frame)) (pieces_sent past) s.silent carried;
@@ -137,7 +159,7 @@ can_take side past s = rw (s.cut, s.refused, s.opened, s.post_due) refl
 pub posts_after : (side : EndId) (past : List Event) (frame : List ℕ) → IsSettled side past → take_fault side usual_limits past frame ≡ None
     → next_event side usual_limits (Take frame ∷ past) ≡ due.Post 1
 posts_after side past frame s fits =
-    next-post side usual_limits (Take frame ∷ past) (record { cut = s.cut; opened = refl; refused = rw fits refl }) refl
+    next-post side usual_limits (Take frame ∷ past) (record { cut = s.cut; opened = refl; closed = rw fits refl }) refl
 
 pub taken : (side : EndId) (past : List Event) (frame : List ℕ) (grants : ℕ) → IsSettled side past → 1 ≤ receives_outstanding side past → take_fault side usual_limits past frame ≡ None
     → credits_in (peer_of side) false frame ≡ grants → HasTaken side past frame grants
@@ -158,6 +180,8 @@ taken side past frame grants s some fits grant =
         silent = s.silent;
         unheard = refl;
         welcomed = rw s.unheard s.welcomed;
+        payload = rw s.unheard s.payload;
+        longest = rw s.unheard s.longest;
       };
       held = held ∙ ap (λ (n : ℕ). min 65535 (credits_held side past + n)) granted;
       outstanding = omega (arith, one, b.taken);
@@ -173,7 +197,7 @@ fits_peer side other from to sides pair two waits =
     let frame = frame_due side usual_limits from in
     let legal : IsLegal (peer_of other) usual_limits (Emit frame ∷ from) =
     subst (λ (s : EndId). IsLegal s usual_limits (Emit frame ∷ from)) (sym sides) (emitted side from pair.from_end.settled two waits).settled.legal in
-    accepted other usual_limits to (Emit frame ∷ from) frame [] lawful legal pair.to_end.accepted
+    accepted other usual_limits usual_limits to (Emit frame ∷ from) frame [] lawful lawful legal pair.to_end.settled.legal pair.to_end.accepted
     ([], append-nil (taken_frames from) ∙ pair.from_end.frames) (ap (λ (fs : List (List ℕ)). fs ++ frame ∷ []) (sym pair.to_end.frames))
 
 -- both ends after the frame

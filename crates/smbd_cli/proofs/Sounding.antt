@@ -11,10 +11,12 @@ use Rattle.smbd_base.specs.declared.event.Event.{Event}
 use Rattle.smbd_base.specs.Limits.{usual_limits}
 use Rattle.smbd_base.specs.History.{messages_submitted}
 use Rattle.smbd_base.specs.Delivery.{messages_delivered}
+use Rattle.joint_laws.proofs.Meeting.{balances, client_meets, server_meets}
 use Rattle.smbd_cli.specs.Progress.{HasSaid}
 use Rattle.smbd_cli.specs.Promise.{IsSound, usable}
 use Rattle.smbd_cli.specs.PutRun.{Group, groups, groups_from, groups_count, write_of, reply_of, last_request, last_reply, put_requests, put_replies}
 use Rattle.smbd_cli.proofs.Groups.{groups_more, groups_join, length-groups}
+use Rattle.smbd_cli.proofs.Sending.{lawful}
 
 pub prefix_of-equal : {A : Type 0} (xs ys : List A) → xs ≡ ys → IsPrefix xs ys
 prefix_of-equal xs ys e = ([], append-nil xs ∙ e)
@@ -130,6 +132,9 @@ pub sound_of : (c s : List Event) (said_ended ended : Bool) (said bytes stored t
     → IsSound (record { client = c; server = s; bytes = bytes; ended = ended; stored = stored; text = text })
 sound_of c s said_ended ended said bytes stored text h o stores = record {
   joint = h.joint;
+  credits = balances usual_limits usual_limits c s lawful lawful h.joint;
+  client_receives = client_meets usual_limits usual_limits c s lawful lawful h.joint;
+  server_receives = server_meets usual_limits usual_limits c s lawful lawful h.joint;
   to_server = prefix_of-equal (messages_delivered Server usual_limits s) (messages_submitted c) h.to_server;
   to_client = prefix_of-equal (messages_delivered Client usual_limits c) (messages_submitted s) h.to_client;
   put = record {

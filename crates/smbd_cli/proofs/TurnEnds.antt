@@ -3,6 +3,7 @@ use Rattle.std.proofs.Common.{◌≡◌, ℕ, ◌+◌, ◌≤◌, Bool, false, O
 use Rattle.std.proofs.lemmas.List.{length-reverse}
 use Rattle.std.specs.Io.KnownBytes.{Appends}
 use Rattle.smbd_base.specs.declared.event.Event.{Event}
+use Rattle.smbd_base.specs.Joint.{AreJoint}
 use Rattle.smbd_outside.specs.declared.status.Status.{Status}
 use Rattle.smbd_outside.specs.declared.status.Status.TheVariants.{WriteFault, NoMemory}
 use Rattle.smbd_outside.specs.Causes.{Rose}
@@ -36,12 +37,12 @@ module _ (from to told : Stream) (to_now told_now : Option (List ℕ)) (to_fault
 
   module _ (client_now server_now : Shown) (ce se : List Event)
       (puts : (earlier : List ℕ) → length earlier ≡ before → HasPut client server false earlier → HasPut client_now server_now ended (earlier ++ bytes))
-      (c_more : GoesOn client.past client_now.past) (s_more : GoesOn server.past server_now.past) (c_is : reverse ce ≡ client_now.past) (s_is : reverse se ≡ server_now.past) where
+      (joint : AreJoint client_now.limits server_now.limits client_now.past server_now.past) (c_more : GoesOn client.past client_now.past) (s_more : GoesOn server.past server_now.past) (c_is : reverse ce ≡ client_now.past) (s_is : reverse se ≡ server_now.past) where
     put_now : HasPut client_now server_now ended (b.earlier ++ bytes)
     put_now = puts b.earlier b.earlier_is b.put
 
     said_now : HasSaid client_now.past server_now.past ended (b.earlier ++ bytes)
-    said_now = said_of client_now server_now ended (b.earlier ++ bytes) put_now (omega (arith, b.short, b.earlier_is, length-append b.earlier bytes))
+    said_now = said_of client_now server_now ended (b.earlier ++ bytes) put_now joint (omega (arith, b.short, b.earlier_is, length-append b.earlier bytes))
 
     pub turn_telling : (log_now : Option (List ℕ)) (faults : ℕ) (status : Status) → AppendsFront told_now log_now (new_text ct st ce se) → StopsTelling status told_faults faults
         → KeepsPromise status from (moved to to_now to_faults) (moved told log_now faults)

@@ -7,18 +7,17 @@ use Rattle.smbd_base.specs.declared.end_id.EndId.{EndId}
 use Rattle.smbd_base.specs.declared.end_id.EndId.TheVariants.{Client, Server}
 use Rattle.smbd_base.specs.declared.event.Event.{Event}
 use Rattle.smbd_base.specs.declared.event.Event.TheVariants.{Post, Submit, Emit, Take, Cut}
-use Rattle.smbd_base.specs.Limits.{usual_limits}
-use Rattle.smbd_base.specs.History.{next_event, IsLegal}
+use Rattle.smbd_base.specs.Limits.{Limits, usual_limits}
 use mathlib.Core.List.{IsPrefix}
 use Rattle.smbd_cli.specs.PutRun.{groups}
-use Rattle.smbd_base.specs.Negotiation.{request_text, response_text}
-use Rattle.smbd_base.specs.Joint.{taken_frames, emitted_frames}
+use Rattle.smbd_base.specs.Joint.{AreJoint}
+use Rattle.joint_laws.proofs.Growing.{opened_joint}
 use Rattle.smbd_outside.specs.declared.status.Status.{Status}
 use Rattle.smbd_outside.specs.declared.status.Status.TheVariants.{Done, NoMemory}
 use Rattle.smbd_outside.specs.Streams.{AppendsFront}
 use Rattle.connection_core.specs.Shown.{Shown}
 use Rattle.smbd_cli.specs.declared.telling.Told.{Told}
-use Rattle.smbd_cli.specs.Carried.{opened, with_past, agreed_client, agreed_server}
+use Rattle.smbd_cli.specs.Carried.{opened, usual_request, usual_response, with_past, agreed_client, agreed_server}
 use Rattle.smbd_cli.specs.FileMessages.{reply_for}
 use Rattle.smbd_cli.specs.Lines.{line_of, take_count}
 use Rattle.smbd_cli.specs.LogText.{lines_at, lines_of_ends, IsLog}
@@ -28,22 +27,18 @@ use Rattle.smbd_cli.specs.Put.{HasPut}
 use Rattle.smbd_cli.specs.Settled.{GoesOn}
 use Rattle.smbd_cli.specs.Telling.{new_text, told_after}
 use Rattle.smbd_cli.proofs.Groups.{replies_are}
+use Rattle.smbd_cli.proofs.Sending.{lawful}
 use Rattle.smbd_cli.proofs.Promising.{StopsTelling, stops_reading, stops_done}
 use Rattle.smbd_cli.proofs.Sounding.{prefix_of-equal, said_groups, sound_of}
 
--- what went over between two ends at rest
-pub said_of : (client server : Shown) (ended : Bool) (bytes : List ℕ) → HasPut client server ended bytes → length bytes ≤ 16777216 → HasSaid client.past server.past ended bytes
-said_of client server ended bytes p short =
+-- what went over between two ends at rest, whose histories fit together
+pub said_of : (client server : Shown) (ended : Bool) (bytes : List ℕ) → HasPut client server ended bytes → AreJoint client.limits server.limits client.past server.past → length bytes ≤ 16777216
+    → HasSaid client.past server.past ended bytes
+said_of client server ended bytes p joint short =
     let rest = p.pair.rest in
     record {
-      joint = record {
-        client_legal = rest.pair.from_end.settled.legal;
-        server_legal = rest.pair.to_end.settled.legal;
-        client_accepted = rest.pair.from_end.accepted;
-        server_accepted = rest.pair.to_end.accepted;
-        to_client = prefix_of-equal (taken_frames client.past) (emitted_frames server.past) rest.pair.from_end.frames;
-        to_server = prefix_of-equal (taken_frames server.past) (emitted_frames client.past) rest.pair.to_end.frames;
-      };
+      joint = subst (λ (l : Limits). AreJoint usual_limits l client.past server.past) p.pair.server_limits
+          (subst (λ (l : Limits). AreJoint l server.limits client.past server.past) p.pair.client_limits joint);
       requests = p.requests;
       replies = rest.replied ∙ ap (map reply_for) (p.caught_up ∙ p.requests) ∙ replies_are ended bytes short;
       to_server = p.caught_up;
@@ -62,21 +57,10 @@ untold = record { events = 0; next = 1 }
 abbrev pub opening_text : List ℕ
 opening_text = new_text untold untold opening opening
 
-legal_opening : (side : EndId) → IsLegal side usual_limits opening
-unfolding next_event
-legal_opening side = (refl, tt)
-
 said_opening : HasSaid opening opening false []
-unfolding groups next_event
+unfolding groups
 said_opening = record {
-  joint = record {
-    client_legal = legal_opening Client;
-    server_legal = legal_opening Server;
-    client_accepted = tt;
-    server_accepted = tt;
-    to_client = ([], refl);
-    to_server = ([], refl);
-  };
+  joint = opened_joint usual_limits usual_limits lawful lawful;
   requests = refl;
   replies = refl;
   to_server = refl;
@@ -200,13 +184,13 @@ next_turn source sink log c s client server ct st bytes more ended source_now fa
 -- the ends went on from their opening
 pub went_on : (client client_now : Shown) → client_now ≡ with_past client agreed_client → GoesOn opening client_now.past
 went_on client client_now is = (
-  Post 1 ∷ Take (response_text usual_limits) ∷ Emit (request_text usual_limits) ∷ [],
+  Post 1 ∷ Take usual_response ∷ Emit usual_request ∷ [],
   ap (λ (e : Shown). e.past) is,
 )
 
 pub went_on_server : (server server_now : Shown) → server_now ≡ with_past server agreed_server → GoesOn opening server_now.past
 went_on_server server server_now is = (
-  Emit (response_text usual_limits) ∷ Post 1 ∷ Take (request_text usual_limits) ∷ [],
+  Emit usual_response ∷ Post 1 ∷ Take usual_request ∷ [],
   ap (λ (e : Shown). e.past) is,
 )
 

@@ -6,7 +6,7 @@ use Rattle.smbd_base.specs.declared.event.Event.TheVariants.{Post, Emit, Take}
 use Rattle.smbd_base.specs.declared.next.Next.{Next}
 use Rattle.smbd_base.specs.declared.next.Next.TheVariants as due
 use Rattle.smbd_base.specs.Limits.{usual_limits}
-use Rattle.smbd_base.specs.Negotiation.{request_text, response_text}
+use Rattle.smbd_base.specs.NegotiateMessages.{request_bytes, request_of_limits, response_bytes, answer_to}
 use Rattle.smbd_base.specs.History.{next_event, take_fault, is_ready}
 use Rattle.smbd_base.specs.Delivery.{messages_delivered}
 use Rattle.connection_core.specs.Shown.{Shown}
@@ -36,12 +36,19 @@ pub record HasCarried (from to from_now to_now : Shown) (message : Option (List 
 abbrev pub opened : EndId → Shown
 opened side = record { side = side; limits = usual_limits; past = Post 255 ∷ []; prepared = None }
 
+-- the negotiation messages of two such ends
+abbrev pub usual_request : List ℕ
+usual_request = request_bytes (request_of_limits usual_limits)
+
+abbrev pub usual_response : List ℕ
+usual_response = response_bytes (answer_to (request_of_limits usual_limits) usual_limits 255)
+
 -- both ends after the negotiation
 abbrev pub agreed_client : List Event
-agreed_client = Post 1 ∷ Take (response_text usual_limits) ∷ Emit (request_text usual_limits) ∷ Post 255 ∷ []
+agreed_client = Post 1 ∷ Take usual_response ∷ Emit usual_request ∷ Post 255 ∷ []
 
 abbrev pub agreed_server : List Event
-agreed_server = Emit (response_text usual_limits) ∷ Post 1 ∷ Take (request_text usual_limits) ∷ Post 255 ∷ []
+agreed_server = Emit usual_response ∷ Post 1 ∷ Take usual_request ∷ Post 255 ∷ []
 
 -- the same end with this past, and nothing prepared
 abbrev pub with_past : Shown → List Event → Shown

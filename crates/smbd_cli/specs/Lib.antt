@@ -1,8 +1,11 @@
 pub mod Carried
 pub mod Command
+pub mod Ends
 pub mod FileMessages
+pub mod Input
 pub mod Lines
 pub mod LogText
+pub mod Plain
 pub mod Progress
 pub mod Promise
 pub mod Put

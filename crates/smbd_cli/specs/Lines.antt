@@ -1,24 +1,14 @@
--- The lines of a log (this project's own). A past is a list of events, the newest one first.
-use Rattle.std.specs.Prelude.{ℕ, ◌+◌, List, [], ◌∷◌, ◌++◌, length, codes, decimal}
-use Rattle.hex.specs.Hex.{encode_lower}
+-- The lines of the log of a copy (this project's own). A past is a list of events, the newest one first.
+use Rattle.std.specs.Prelude.{ℕ, ◌+◌, List, [], ◌∷◌, ◌++◌, codes}
+use Rattle.event_log.specs.Lines.{line_text, logged}
+use Rattle.run_log.specs.RunLines.{side_of}
 use Rattle.smbd_base.specs.declared.end_id.EndId.{EndId}
-use Rattle.smbd_base.specs.declared.end_id.EndId.TheVariants.{Client, Server}
 use Rattle.smbd_base.specs.declared.event.Event.{Event}
 use Rattle.smbd_base.specs.declared.event.Event.TheVariants.{Post, Submit, Emit, Take, Cut}
 
--- the letter of a side
-abbrev pub letter_of : EndId → List ℕ
-letter_of Client = codes "C"
-letter_of Server = codes "S"
-
--- The line of an event, with its line feed. A frame that is sent stands in it whole, as hex; a frame that is taken goes
--- by its number, from 1, and its length.
+-- the line of an event, with its line feed
 abbrev pub line_of : EndId → ℕ → Event → List ℕ
-line_of side number (Post n) = letter_of side ++ (codes " post " ++ (decimal n ++ codes "\n"))
-line_of side number (Submit m) = letter_of side ++ (codes " submit " ++ (decimal (length m) ++ codes "\n"))
-line_of side number (Emit f) = letter_of side ++ (codes " emit " ++ (encode_lower f ++ codes "\n"))
-line_of side number (Take f) = letter_of side ++ (codes " take " ++ (decimal number ++ (codes " " ++ (decimal (length f) ++ codes "\n"))))
-line_of side number Cut = letter_of side ++ codes " cut\n"
+line_of side number event = line_text (side_of side) (logged number event) ++ codes "\n"
 
 -- the frames that were taken, refused or not
 abbrev pub take_count : List Event → ℕ

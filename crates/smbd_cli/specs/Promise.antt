@@ -9,6 +9,8 @@ use Rattle.smbd_base.specs.Limits.{usual_limits}
 use Rattle.smbd_base.specs.History.{messages_submitted}
 use Rattle.smbd_base.specs.Delivery.{messages_delivered}
 use Rattle.smbd_base.specs.Joint.{AreJoint}
+use Rattle.joint_laws.specs.Credits.{AreBalanced}
+use Rattle.joint_laws.specs.Receives.{MeetReceives}
 use Rattle.smbd_outside.specs.declared.status.Status.{Status}
 use Rattle.smbd_outside.specs.declared.status.Status.TheVariants.{Done, Usage, ReadFault, WriteFault, LogFault, TooLong, Cut, BadInput, NoMemory}
 use Rattle.smbd_outside.specs.Causes.{Rose}
@@ -62,8 +64,15 @@ pub record IsPutRun (c : Course) : Type 0 where
 
 -- what holds of a copy however it ends
 pub record IsSound (c : Course) : Type 0 where
-  -- both ends follow their rules, no frame was refused, and each took what the other sent, in order
+  -- both ends follow their rules, no frame was refused, and each took what the other sent, in order; the credits of each
+  -- direction balance; and the two histories fit into one order of time
   pub joint : AreJoint usual_limits usual_limits c.client c.server
+  -- no end sends without a receive that its peer has posted, or holds more credits than its peer posts receives, and the
+  -- credits never all vanish
+  pub credits : AreBalanced usual_limits usual_limits c.client c.server
+  -- each frame met a receive that its taker had posted before the frame was sent
+  pub client_receives : MeetReceives usual_limits c.client c.server
+  pub server_receives : MeetReceives usual_limits c.server c.client
   -- each end delivers a front of the messages that its peer submitted: whole, once and in order
   pub to_server : IsPrefix (messages_delivered Server usual_limits c.server) (messages_submitted c.client)
   pub to_client : IsPrefix (messages_delivered Client usual_limits c.client) (messages_submitted c.server)

@@ -7,7 +7,7 @@ use Rattle.smbd_base.specs.declared.event.Event.{Event}
 use Rattle.smbd_base.specs.Limits.{usual_limits}
 use Rattle.smbd_base.specs.Counts.{credits_held, receives_outstanding, receives_grantable, is_silent, is_unheard}
 use Rattle.smbd_base.specs.Pieces.{Piece, pieces_of}
-use Rattle.smbd_base.specs.History.{is_cut, is_new, is_refused, is_post_due, is_welcomed, messages_submitted, pieces_sent, payload_size, IsLegal}
+use Rattle.smbd_base.specs.History.{settled, is_cut, is_new, is_refused, is_post_due, is_welcomed, messages_submitted, pieces_sent, payload_size, IsLegal}
 use Rattle.smbd_base.specs.Delivery.{messages_delivered}
 use Rattle.smbd_base.specs.Joint.{taken_frames, emitted_frames, AreAccepted}
 
@@ -15,11 +15,15 @@ use Rattle.smbd_base.specs.Joint.{taken_frames, emitted_frames, AreAccepted}
 abbrev pub GoesOn : List Event → List Event → Type 0
 GoesOn past now = (new : List Event) × (now ≡ new ++ past)
 
--- the pieces of these messages, as an end of the usual limits cuts them
-abbrev pub pieces_of_all : List (List ℕ) → List Piece
-pieces_of_all messages = flat_map (pieces_of (payload_size usual_limits)) messages
+-- the bytes of a message that one frame carries between two ends of the usual limits
+abbrev pub usual_payload : ℕ
+usual_payload = 1340
 
--- an agreed end that goes on, with no receive to post
+-- the pieces of these messages, as such ends cut them
+abbrev pub pieces_of_all : List (List ℕ) → List Piece
+pieces_of_all messages = flat_map (pieces_of usual_payload) messages
+
+-- an agreed end that goes on, with no receive to post, and has settled what two ends of the usual limits settle
 pub record IsSettled (side : EndId) (past : List Event) : Type 0 where
   pub legal : IsLegal side usual_limits past
   pub cut : is_cut past ≡ false
@@ -29,6 +33,9 @@ pub record IsSettled (side : EndId) (past : List Event) : Type 0 where
   pub silent : is_silent past ≡ false
   pub unheard : is_unheard past ≡ false
   pub welcomed : is_welcomed side usual_limits past ≡ true
+  -- from the peer's negotiation message: how many bytes of a message a frame carries, and how long a message may be
+  pub payload : payload_size side usual_limits past ≡ usual_payload
+  pub longest : (settled side usual_limits past).message_max ≡ 1048576
 
 -- an end beside its peer: it has refused nothing and taken all that the peer sent
 pub record IsBeside (side other : EndId) (own peer : List Event) : Type 0 where

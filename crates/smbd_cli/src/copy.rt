@@ -2,23 +2,23 @@
 
 ghost use Rattle.std.specs.Prelude.{◌≡◌, ◌+◌, ◌%◌, ◌≤◌, ◌⊎◌, ℕ, true, false, List, [], Some, length, vec_capacity, IfOk, IfErr, OnOk};
 ghost use Rattle.std.specs.Io.KnownBytes.{Consumes, IsAtEnd};
-ghost use Rattle.smbd_base.specs.declared.end_id.EndId.TheVariants as side;
-ghost use Rattle.smbd_cli.specs.Carried.{opened};
+ghost use Rattle.smbd_base.specs.Limits.{usual_limits};
+ghost use Rattle.world_core.specs.Run.{opened_world};
 ghost use Rattle.smbd_cli.specs.Command.{plain_put};
+ghost use Rattle.smbd_cli.specs.Ends.{client_of, server_of};
 ghost use Rattle.smbd_cli.specs.Progress.{moved, IsBeforeTurn, IsAfterTurn, StopsReading};
 ghost use Rattle.smbd_cli.specs.Promise.{stream_of, Stream, KeepsPromise, IsFair, IsCopied};
 ghost use Rattle.smbd_cli.specs.Put.{ArePair, HasCaughtUp};
 
 use crate::exchange::negotiate;
+use crate::input::MOST;
 use crate::options::CopyCommand;
 use crate::put::{GROUP, WINDOW, put_groups, store};
 use crate::telling::{Told, tell};
-use connection_core::End;
+use smbd_base::EndId;
 use smbd_outside::{Failed, Filled, Sink, Source, Status, fill};
 use std::alloc::Global;
-
-/// The most bytes that a copy reads.
-const MOST: usize = 16_777_216;
+use world_core::World;
 
 /// The bytes of one turn: the groups of as many WRITEs as may be unanswered.
 const TURN: usize = WINDOW * GROUP;
@@ -49,27 +49,22 @@ pub fn run_copy<S: Source, K: Sink, L: Sink>(
         CopyCommand::Copy(options) => options.limits,
         CopyCommand::Load { options, .. } => options.limits,
     };
-    let Ok(mut client) = End::open_client(alloc, limits) else {
+    let Ok(mut world) = World::open(alloc, limits, limits) else {
         return Status::NoMemory;
     };
-    let Ok(mut server) = End::open_server(alloc, limits) else {
-        return Status::NoMemory;
-    };
-    copy_between(alloc, &mut client, &mut server, source, sink, log)
+    copy_between(alloc, &mut world, source, sink, log)
 }
 
-/// Copies the source to the sink between two ends that were just opened. The first groups are read before anything is
-/// sent.
+/// Copies the source to the sink between the ends of a world that was just opened. The first groups are read before
+/// anything is sent.
 fn copy_between<S: Source, K: Sink, L: Sink>(
     alloc: Global,
-    client: &mut End,
-    server: &mut End,
+    world: &mut World,
     source: &mut S,
     sink: &mut K,
     log: &mut L,
 ) -> Status
-    requires client { client.old ≡ opened side.Client }
-    requires server { server.old ≡ opened side.Server }
+    requires { world.old ≡ opened_world usual_limits usual_limits }
     ensures promise { KeepsPromise result (stream_of S.left S.faults source.old source.new)
         (stream_of K.written K.faults sink.old sink.new) (stream_of L.written L.faults log.old log.new) }
 {
@@ -80,8 +75,8 @@ fn copy_between<S: Source, K: Sink, L: Sink>(
         log,
         &mut client_told,
         &mut server_told,
-        client.history(),
-        server.history(),
+        world.history(EndId::Client),
+        world.history(EndId::Server),
     ) {
         Ok(()) => {}
         Err(status) => return status,
@@ -93,15 +88,14 @@ fn copy_between<S: Source, K: Sink, L: Sink>(
         Ok(ended) => ended,
         Err(status) => return status,
     };
-    let Ok(()) = negotiate(client, server) else {
+    let Ok(()) = negotiate(world) else {
         return Status::NoMemory;
     };
     let mut before = 0;
     loop {
         match turn(
             alloc,
-            client,
-            server,
+            world,
             sink,
             log,
             &mut client_told,
@@ -152,8 +146,7 @@ fn read_turn<S: Source>(source: &mut S, bytes: &mut Vec<u8>, before: u64) -> Res
 /// One turn of a copy: the bytes go from the client to the server, then the log is told, and then the sink gets them.
 fn turn<K: Sink, L: Sink>(
     alloc: Global,
-    client: &mut End,
-    server: &mut End,
+    world: &mut World,
     sink: &mut K,
     log: &mut L,
     client_told: &mut Told,
@@ -162,25 +155,27 @@ fn turn<K: Sink, L: Sink>(
     bytes: &[u8],
     ended: bool,
 ) -> Result<(), Status>
-    requires pair { ArePair client.old server.old }
-    requires caught_up { HasCaughtUp client.old server.old }
+    requires pair { ArePair (client_of world.old) (server_of world.old) }
+    requires link { world.old.link_cut ≡ false }
+    requires caught_up { HasCaughtUp (client_of world.old) (server_of world.old) }
     requires groups { before % 65536 ≡ 0 }
     requires short { before + length bytes.now ≤ 16777216 }
-    requires client { (client_told.old.events ≤ length client.old.past) × (client_told.old.next ≤ client_told.old.events + 1) }
-    requires server { (server_told.old.events ≤ length server.old.past) × (server_told.old.next ≤ server_told.old.events + 1) }
+    requires client { (client_told.old.events ≤ length world.old.client) × (client_told.old.next ≤ client_told.old.events + 1) }
+    requires server { (server_told.old.events ≤ length world.old.server) × (server_told.old.next ≤ server_told.old.events + 1) }
 
     // However far the copy has come: the bytes go over, are told and are stored, or the promise of the whole copy is kept.
     ensures goes_on { (from to told : Stream) → to.now ≡ K.written sink.old → to.faults ≡ K.faults sink.old
         → told.now ≡ L.written log.old → told.faults ≡ L.faults log.old
-        → IsBeforeTurn from to told client.old server.old client_told.old server_told.old before bytes.now ended
+        → IsBeforeTurn from to told (client_of world.old) (server_of world.old) client_told.old server_told.old before bytes.now ended
         → OnOk result (IsAfterTurn from (moved to (K.written sink.new) (K.faults sink.new)) (moved told (L.written log.new) (L.faults log.new))
-        client.new server.new client_told.new server_told.new ended (before + length bytes.now)) }
+        (client_of world.new) (server_of world.new) client_told.new server_told.new ended (before + length bytes.now)) }
     ensures stops { (from to told : Stream) → to.now ≡ K.written sink.old → to.faults ≡ K.faults sink.old
         → told.now ≡ L.written log.old → told.faults ≡ L.faults log.old
-        → IsBeforeTurn from to told client.old server.old client_told.old server_told.old before bytes.now ended
+        → IsBeforeTurn from to told (client_of world.old) (server_of world.old) client_told.old server_told.old before bytes.now ended
         → IfErr result (λ status. KeepsPromise status from (moved to (K.written sink.new) (K.faults sink.new)) (moved told (L.written log.new) (L.faults log.new))) }
+    ensures link { OnOk result (world.new.link_cut ≡ false) }
 {
-    let Ok(came) = put_groups(alloc, client, server, before, bytes, ended) else {
+    let Ok(came) = put_groups(alloc, world, before, bytes, ended) else {
         return Err(Status::NoMemory);
     };
     match tell(
@@ -188,8 +183,8 @@ fn turn<K: Sink, L: Sink>(
         log,
         client_told,
         server_told,
-        client.history(),
-        server.history(),
+        world.history(EndId::Client),
+        world.history(EndId::Server),
     ) {
         Ok(()) => {}
         Err(status) => return Err(status),

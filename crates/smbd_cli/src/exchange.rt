@@ -1,122 +1,90 @@
-//! Two ends on one thread that lend each other their frames.
+//! Messages that go over between the two ends of a world.
 
-ghost use Rattle.std.specs.Prelude.{◌≡◌, ◌++◌, ◌∷◌, ◌≤◌, ◌<◌, [], true, None, Some, ℕ, List, length, IfOk, OnOk, option_to_list};
+ghost use Rattle.std.specs.Prelude.{◌≡◌, ◌∷◌, false, true, None, ℕ, List, slice_get, IfOk, OnOk};
 ghost use Rattle.smbd_base.specs.declared.event.Event.TheVariants as events;
 ghost use Rattle.smbd_base.specs.declared.next.Next.TheVariants as due;
 ghost use Rattle.smbd_base.specs.Delivery.{messages_delivered};
 ghost use Rattle.smbd_base.specs.History as spec;
+ghost use Rattle.smbd_base.specs.Joint.{emitted_frames, taken_frames};
 ghost use Rattle.smbd_base.specs.declared.end_id.EndId.TheVariants as side;
 ghost use Rattle.smbd_base.specs.Counts.{peer_of};
 ghost use Rattle.smbd_base.specs.Limits.{usual_limits};
+ghost use Rattle.world_core.specs.Run.{past_of, limits_of};
 ghost use Rattle.smbd_cli.specs.Carried.{is_emit, opened, agreed_client, agreed_server, with_past, CanTake, HasCarried};
+ghost use Rattle.smbd_cli.specs.Ends.{shown_of, client_of, server_of};
 ghost use Rattle.smbd_cli.specs.Settled.{CanSend, HasSentOne};
 
-use connection_core::{End, Next, SubmitFault, SubmitRefused, TakeFault, TakeRefused};
-use smbd_base::{Frame, Message, NoMemory};
+use smbd_base::{EndId, Message, NoMemory};
+use world_core::{Choice, World};
 
-/// Posts the receive that is due.
-fn post_receive(end: &mut End) -> Result<(), NoMemory>
-    requires { spec.next_event end.old.side end.old.limits end.old.past ≡ due.Post 1 }
-    ensures { OnOk result (end.new ≡ record end.old { past = events.Post 1 ∷ end.old.past; prepared = None }) }
+/// The message of this number, from 0, that an end has delivered, where it has delivered so many.
+fn delivered_at(world: &World, end: EndId, number: usize) -> Result<Option<Message>, NoMemory>
+    ensures { IfOk result (λ m. m ≡ slice_get (messages_delivered end (limits_of end world.now) (past_of end world.now)) number) }
 {
-    match end.next()? {
-        Next::Post(_) => {
-            end.commit();
-            Ok(())
-        }
-        _ => unreachable!(),
-    }
-}
-
-/// Sends the frame that is due.
-fn emit(end: &mut End) -> Result<Frame, NoMemory>
-    requires { is_emit (spec.next_event end.old.side end.old.limits end.old.past) ≡ true }
-    ensures frame { IfOk result (λ f. spec.next_event end.old.side end.old.limits end.old.past ≡ due.Emit f) }
-    ensures added { IfOk result (λ f. end.new ≡ record end.old { past = events.Emit f ∷ end.old.past; prepared = None }) }
-{
-    match end.next()? {
-        Next::Emit(frame) => {
-            end.commit();
-            Ok(frame)
-        }
-        _ => unreachable!(),
-    }
-}
-
-/// Takes a frame that is not refused, and gives the message that it ends.
-fn take(end: &mut End, frame: Frame) -> Result<Option<Message>, NoMemory>
-    requires ready { spec.is_ready end.old.side end.old.limits end.old.past ≡ true }
-    requires fault { spec.take_fault end.old.side end.old.limits end.old.past frame ≡ None }
-    ensures added { OnOk result (end.new ≡ record end.old { past = events.Take frame ∷ end.old.past; prepared = None }) }
-    ensures delivered { IfOk result (λ m. messages_delivered end.old.side end.old.limits (events.Take frame ∷ end.old.past)
-        ≡ messages_delivered end.old.side end.old.limits end.old.past ++ option_to_list m) }
-{
-    match end.take(frame) {
-        Ok(message) => Ok(message),
-        Err(
-            TakeRefused {
-                fault: TakeFault::NoMemory,
-                ..
-            },
-        ) => Err(NoMemory),
-        Err(_) => unreachable!(),
+    match world.delivered(end).get(number) {
+        Some(message) => Ok(Some(message.clone()?)),
+        None => Ok(None),
     }
 }
 
 /// Carries the frame that one end is due to send to the other, which takes it and posts its receive anew. Gives the
 /// message that the frame ends.
-fn carry(from: &mut End, to: &mut End) -> Result<Option<Message>, NoMemory>
-    requires due { is_emit (spec.next_event from.old.side from.old.limits from.old.past) ≡ true }
-    requires lands { (f : List ℕ) → spec.next_event from.old.side from.old.limits from.old.past ≡ due.Emit f → CanTake to.old f }
-    ensures carried { IfOk result (λ m. HasCarried from.old to.old from.new to.new m) }
+fn carry(world: &mut World, from: EndId, to: EndId) -> Result<Option<Message>, NoMemory>
+    requires sides { peer_of to ≡ from }
+    requires link { world.old.link_cut ≡ false }
+    requires arrived { taken_frames (past_of to world.old) ≡ emitted_frames (past_of from world.old) }
+    requires due { is_emit (spec.next_event from (limits_of from world.old) (past_of from world.old)) ≡ true }
+    requires lands { (f : List ℕ) → spec.next_event from (limits_of from world.old) (past_of from world.old) ≡ due.Emit f → CanTake (shown_of to world.old) f }
+    ensures carried { IfOk result (λ m. HasCarried (shown_of from world.old) (shown_of to world.old) (shown_of from world.new) (shown_of to world.new) m) }
+    ensures link { OnOk result (world.new.link_cut ≡ false) }
 {
-    let frame = emit(from)?;
-    let message = take(to, frame)?;
-    post_receive(to)?;
+    let before = world.delivered(to).len();
+    world.step(&Choice::Drive(from))?;
+    world.step(&Choice::Carry(to))?;
+    let message = delivered_at(world, to, before)?;
+    world.step(&Choice::Drive(to))?;
     Ok(message)
 }
 
 /// Submits a message that is not refused.
-pub fn submit(end: &mut End, message: Message) -> Result<(), NoMemory>
-    requires { spec.submit_fault end.old.side end.old.limits end.old.past message ≡ None }
-    ensures { OnOk result (end.new ≡ record end.old { past = events.Submit message ∷ end.old.past; prepared = None }) }
+pub fn submit(world: &mut World, end: EndId, message: Message) -> Result<(), NoMemory>
+    requires { spec.submit_fault end (limits_of end world.old) (past_of end world.old) message ≡ None }
+    ensures submitted { OnOk result (shown_of end world.new ≡ with_past (shown_of end world.old) (events.Submit message ∷ past_of end world.old)) }
+    ensures peer { OnOk result (shown_of (peer_of end) world.new ≡ shown_of (peer_of end) world.old) }
+    ensures link { OnOk result (world.new.link_cut ≡ world.old.link_cut) }
 {
-    match end.submit(message) {
-        Ok(()) => Ok(()),
-        Err(
-            SubmitRefused {
-                fault: SubmitFault::NoMemory,
-                ..
-            },
-        ) => Err(NoMemory),
-        Err(_) => unreachable!(),
-    }
+    world.step(&Choice::Submit(end, message))?;
+    Ok(())
 }
 
 /// Opens the connection: the client sends its request, and the server its response.
-pub fn negotiate(client: &mut End, server: &mut End) -> Result<(), NoMemory>
-    requires client { client.old ≡ opened side.Client }
-    requires server { server.old ≡ opened side.Server }
-    ensures client { OnOk result (client.new ≡ with_past client.old agreed_client) }
-    ensures server { OnOk result (server.new ≡ with_past server.old agreed_server) }
+pub fn negotiate(world: &mut World) -> Result<(), NoMemory>
+    requires client { client_of world.old ≡ opened side.Client }
+    requires server { server_of world.old ≡ opened side.Server }
+    requires link { world.old.link_cut ≡ false }
+    ensures client { OnOk result (client_of world.new ≡ with_past (client_of world.old) agreed_client) }
+    ensures server { OnOk result (server_of world.new ≡ with_past (server_of world.old) agreed_server) }
+    ensures link { OnOk result (world.new.link_cut ≡ false) }
 {
-    carry(client, server)?;
-    carry(server, client)?;
+    carry(world, EndId::Client, EndId::Server)?;
+    carry(world, EndId::Server, EndId::Client)?;
     Ok(())
 }
 
 /// Sends the oldest message that waits, piece by piece, and gives it as it was delivered.
-pub fn send(from: &mut End, to: &mut End) -> Result<Message, NoMemory>
-    requires from_limits { from.old.limits ≡ usual_limits }
-    requires to_limits { to.old.limits ≡ usual_limits }
-    requires sides { peer_of to.old.side ≡ from.old.side }
-    requires can { CanSend from.old.side to.old.side from.old.past to.old.past }
-    ensures from { OnOk result (from.new ≡ with_past from.old from.new.past) }
-    ensures to { OnOk result (to.new ≡ with_past to.old to.new.past) }
-    ensures sent { IfOk result (λ m. HasSentOne from.old.side to.old.side from.old.past to.old.past from.new.past to.new.past m) }
+pub fn send(world: &mut World, from: EndId, to: EndId) -> Result<Message, NoMemory>
+    requires from_limits { limits_of from world.old ≡ usual_limits }
+    requires to_limits { limits_of to world.old ≡ usual_limits }
+    requires sides { peer_of to ≡ from }
+    requires link { world.old.link_cut ≡ false }
+    requires can { CanSend from to (past_of from world.old) (past_of to world.old) }
+    ensures from { OnOk result (shown_of from world.new ≡ with_past (shown_of from world.old) (past_of from world.new)) }
+    ensures to { OnOk result (shown_of to world.new ≡ with_past (shown_of to world.old) (past_of to world.new)) }
+    ensures sent { IfOk result (λ m. HasSentOne from to (past_of from world.old) (past_of to world.old) (past_of from world.new) (past_of to world.new) m) }
+    ensures link { OnOk result (world.new.link_cut ≡ false) }
 {
     loop {
-        if let Some(message) = carry(from, to)? {
+        if let Some(message) = carry(world, from, to)? {
             return Ok(message);
         }
     }

@@ -1,18 +1,21 @@
-//! The program: its words, and the copy that they ask for.
+//! The program: its words, and the copy or the run of a script that they ask for.
 #![tactic(auto)]
 
 mod copy;
 mod exchange;
 mod file_messages;
+mod input;
 mod lines;
 mod options;
+mod plain;
 mod program;
 mod put;
 mod telling;
 mod words;
 
 pub use copy::run_copy;
-pub use options::{Channel, CopyCommand, CopyKind, CopyOptions};
+pub use options::{Channel, Command, CopyCommand, CopyKind, CopyOptions, Plain};
+pub use plain::run_plain;
 pub use program::run;
 pub use words::Word;
 

@@ -1,14 +1,16 @@
-//! The lines of a log.
+//! The lines of events, as a copy tells them.
 
 ghost use Rattle.std.specs.Prelude.{◌≡◌, ◌++◌, ◌+◌, ◌<◌, ◌^◌, length, string_bytes, IfOk, OnOk};
 ghost use Rattle.smbd_cli.specs.Lines as spec;
 ghost use Rattle.smbd_cli.specs.LogText.{text_of};
 
+use event_log::add_line;
+use run_log::side_of;
 use smbd_base::{EndId, Event, NoMemory};
 use std::alloc::Global;
 
-/// Adds the line of an event; `number` is the number of the taken frame, and counts for a Take alone.
-fn add_line(
+/// Adds the line of an event, with its line feed. `number` is the number of the taken frame, and counts for a Take alone.
+fn add_line_of(
     alloc: Global,
     text: &mut String,
     side: EndId,
@@ -17,26 +19,8 @@ fn add_line(
 ) -> Result<(), NoMemory>
     ensures { OnOk result (string_bytes text.new ≡ string_bytes text.old ++ spec.line_of side number event.now) }
 {
-    let letter = match side {
-        EndId::Client => "C",
-        EndId::Server => "S",
-    };
-    match event {
-        Event::Post(receives) => write!(text, "{letter} post {receives}\n")?,
-        Event::Submit(message) => {
-            let length = message.len();
-            write!(text, "{letter} submit {length}\n")?;
-        }
-        Event::Emit(frame) => {
-            let digits = hex::encode(alloc, frame.bytes())?;
-            write!(text, "{letter} emit {digits}\n")?;
-        }
-        Event::Take(frame) => {
-            let length = frame.len();
-            write!(text, "{letter} take {number} {length}\n")?;
-        }
-        Event::Cut => write!(text, "{letter} cut\n")?,
-    }
+    add_line(alloc, text, side_of(side), event, number)?;
+    text.push_str("\n")?;
     Ok(())
 }
 
@@ -54,7 +38,7 @@ pub fn add_lines(
 {
     let mut number = first;
     for event in events {
-        add_line(alloc, text, side, number, event)?;
+        add_line_of(alloc, text, side, number, event)?;
         number = next_number(number, event);
     }
     Ok(number)

@@ -40,3 +40,17 @@ pub enum CopyCommand {
         options: CopyOptions,
     },
 }
+
+/// A command that waits for nobody: it reads all of its input, then checks it, and then writes.
+#[derive(Clone, Copy, Debug, PartialEq, Eq)]
+pub enum Plain {
+    /// The run of a script over two ends of these limits.
+    Sim(EndLimits),
+}
+
+/// What the program is asked to do.
+#[derive(Clone, Copy, Debug, PartialEq, Eq)]
+pub enum Command {
+    Copy(CopyCommand),
+    Plain(Plain),
+}

@@ -1,18 +1,23 @@
 //! The top call.
 
 ghost use Rattle.std.specs.Prelude.{◌≡◌, ◌↔◌, ◌⊎◌, ℕ, List, Some, None};
-ghost use Rattle.smbd_cli.specs.declared.options.CopyCommand.{CopyCommand as Command};
+ghost use Rattle.smbd_cli.specs.declared.options.CopyCommand.{CopyCommand as Copying};
+ghost use Rattle.smbd_cli.specs.declared.options.Plain.{Plain as Waitless};
+ghost use Rattle.smbd_cli.specs.declared.options.Command.TheVariants as commands;
 ghost use Rattle.smbd_cli.specs.Command.{command_of};
+ghost use Rattle.smbd_cli.specs.Plain.{KeepsPlainPromise, IsFairPlain, bad_line, status_of};
 ghost use Rattle.smbd_cli.specs.Promise.{stream_of, KeepsPromise, IsFair, IsCopied};
 
 use crate::copy::run_copy;
+use crate::options::Command;
+use crate::plain::run_plain;
 use crate::words::{Word, command_of};
 use smbd_outside::{Sink, Source, Status};
 use std::alloc::Global;
 
-/// Does all that the program does: reads the words, and copies the source to the sink as they say, which the log is
-/// told. `Usage` comes exactly where the words name no command, and then nothing is read or written. Every other
-/// status is that of the copy, with its cause.
+/// Does all that the program does: reads the words, and then copies the source to the sink, which the log is told, or runs
+/// the script that the source has, whose log the sink gets. `Usage` comes exactly where the words name no command, and then
+/// nothing is read or written. Every other status is that of the copy or of the run, with its cause.
 pub fn run<S: Source, K: Sink, L: Sink>(
     alloc: Global,
     words: &[Word],
@@ -22,17 +27,29 @@ pub fn run<S: Source, K: Sink, L: Sink>(
 ) -> Status
     ensures usage { (result ≡ Status.Usage) ↔ (command_of words.now ≡ None) }
     ensures untouched { result ≡ Status.Usage → (source.new ≡ source.old) × (sink.new ≡ sink.old) × (log.new ≡ log.old) }
-    ensures promise { (command : Command) → command_of words.now ≡ Some command → KeepsPromise result
+
+    // the words of a copy
+    ensures promise { (command : Copying) → command_of words.now ≡ Some (commands.Copy command) → KeepsPromise result
         (stream_of S.left S.faults source.old source.new) (stream_of K.written K.faults sink.old sink.new)
         (stream_of L.written L.faults log.old log.new) }
-    ensures copied { (bytes : List ℕ) → S.left source.old ≡ Some bytes → result ≡ Status.Done →
+    ensures copied { (command : Copying) (bytes : List ℕ) → command_of words.now ≡ Some (commands.Copy command) →
+        S.left source.old ≡ Some bytes → result ≡ Status.Done →
         IsCopied (stream_of S.left S.faults source.old source.new) (stream_of K.written K.faults sink.old sink.new) bytes }
-    ensures complete { (command : Command) (bytes : List ℕ) → command_of words.now ≡ Some command →
+    ensures complete { (command : Copying) (bytes : List ℕ) → command_of words.now ≡ Some (commands.Copy command) →
         IsFair (stream_of S.left S.faults source.old source.new) (stream_of K.written K.faults sink.old sink.new)
         (stream_of L.written L.faults log.old log.new) bytes → (result ≡ Status.Done) ⊎ (result ≡ Status.NoMemory) }
+
+    // the words of a script's run, which has no log beside its output
+    ensures plain { (command : Waitless) → command_of words.now ≡ Some (commands.Plain command) →
+        KeepsPlainPromise result command (stream_of S.left S.faults source.old source.new)
+        (stream_of K.written K.faults sink.old sink.new) × (log.new ≡ log.old) }
+    ensures plain_complete { (command : Waitless) (input : List ℕ) → command_of words.now ≡ Some (commands.Plain command) →
+        IsFairPlain (stream_of S.left S.faults source.old source.new) (stream_of K.written K.faults sink.old sink.new) input →
+        (result ≡ status_of (bad_line command input)) ⊎ (result ≡ Status.NoMemory) }
 {
     match command_of(words) {
-        Some(command) => run_copy(alloc, &command, source, sink, log),
+        Some(Command::Copy(command)) => run_copy(alloc, &command, source, sink, log),
+        Some(Command::Plain(command)) => run_plain(alloc, &command, source, sink),
         None => Status::Usage,
     }
 }

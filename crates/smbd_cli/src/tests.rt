@@ -6,6 +6,8 @@ use smbd_outside::{MemorySink, MemorySource, Status};
 use std::alloc::Global;
 use std::test::Fail;
 
+mod sim;
+
 const PUT: [&str; 3] = ["put", "--channel", "none"];
 
 /// What the log has once both ends are open.
@@ -374,8 +376,21 @@ fn a_long_copy_tells_its_faults(rt: HostRuntime) -> Result<(), Fail> {
 
 #[test]
 fn other_words_are_refused_before_anything_is_read(rt: HostRuntime) -> Result<(), Fail> {
-    let cases: [&[&str]; 7] = [
+    let cases: [&[&str]; 20] = [
         &[],
+        &["show"],
+        &["sim", "--credits"],
+        &["sim", "--credits", "2"],
+        &["sim", "--credits", "256"],
+        &["sim", "--credits", "03"],
+        &["sim", "--credits", "+3"],
+        &["sim", "--credits", "3 "],
+        &["sim", "--credits", ""],
+        &["sim", "--credits=3"],
+        &["sim", "--credits", "3", "3"],
+        &["sim", "3", "--credits"],
+        &["sim", "--send-size", "128"],
+        &["sim", "sim"],
         &["put"],
         &["put", "--channel"],
         &["put", "--channel", "some"],

@@ -4,7 +4,8 @@ ghost use Rattle.std.specs.Prelude.{◌≡◌, nat_eq, IfOk};
 ghost use lib.Pointwise.{pointwise};
 ghost use Rattle.smbd_cli.specs.Command as spec;
 
-use crate::options::{Channel, CopyCommand, CopyKind, CopyOptions};
+use crate::options::{Channel, Command, CopyCommand, CopyKind, CopyOptions, Plain};
+use event_log::number_in;
 use smbd_base::{EndLimits, NoMemory};
 use std::alloc::Global;
 use std::marker::Model;
@@ -41,30 +42,60 @@ impl Word {
     }
 }
 
-/// The command that the words name, if they name one: `put --channel none`.
-pub fn command_of(words: &[Word]) -> Option<CopyCommand>
+/// The command that the words name, if they name one: `put --channel none`, `sim` or `sim --credits N`.
+pub fn command_of(words: &[Word]) -> Option<Command>
     ensures { result ≡ spec.command_of words.now }
 {
-    if !are_put(words) {
+    match words {
+        [command] if command.is(b"sim") => { Some(Command::Plain(Plain::Sim(EndLimits::usual()))) }
+        [command, option, value] => command_of_three(command, option, value),
+        _ => None,
+    }
+}
+
+/// The command that these words name: a command, an option and its value.
+fn command_of_three(command: &Word, option: &Word, value: &Word) -> Option<Command>
+    ensures { result ≡ spec.command_of_three command.now option.now value.now }
+{
+    if command.is(b"put") {
+        if option.is(b"--channel") && value.is(b"none") {
+            return Some(Command::Copy(plain_put()));
+        }
         return None;
     }
-    Some(CopyCommand::Copy(CopyOptions {
+    if command.is(b"sim") && option.is(b"--credits") {
+        let limits = limits_of_credits(value)?;
+        return Some(Command::Plain(Plain::Sim(limits)));
+    }
+    None
+}
+
+/// A put without registered pages, of the usual limits.
+fn plain_put() -> CopyCommand
+    ensures { result ≡ spec.plain_put }
+{
+    CopyCommand::Copy(CopyOptions {
         kind: CopyKind::Put,
         channel: Channel::None,
         workers: 1,
         limits: EndLimits::usual(),
         cut: None,
-    }))
+    })
 }
 
-/// Whether these are the words of a put without registered pages.
-fn are_put(words: &[Word]) -> bool
-    ensures { result ≡ pointwise (pointwise nat_eq) words.now spec.put_words }
+/// The usual limits with as many receive credits as the word spells, from 3 to 255.
+#[tactic(auto, unfolding(smbd_base::specs::Limits::is_outside))]
+fn limits_of_credits(word: &Word) -> Option<EndLimits>
+    ensures { result ≡ spec.limits_of_credits word.now }
 {
-    match words {
-        [put, _, _] if !put.is(b"put") => false,
-        [_, option, _] if !option.is(b"--channel") => false,
-        [_, _, channel] => channel.is(b"none"),
-        _ => false,
-    }
+    let credits = number_in(word.text.as_bytes(), 3, 255)?;
+    let usual = EndLimits::usual();
+    EndLimits::check(
+        credits as u16,
+        usual.send_size(),
+        usual.receive_size(),
+        usual.fragmented_size(),
+        usual.pages(),
+    )
+    .ok()
 }

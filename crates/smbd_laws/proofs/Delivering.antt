@@ -1,24 +1,26 @@
 -- What an end delivers is the front of what its peer submitted.
-use Rattle.std.proofs.Common.{◌≡◌, ℕ, List, [], ◌∷◌, ◌++◌, take, drop, Option, Some, None, option_to_list, refl, ap, sym, ◌∙◌, append-nil, append_assoc, take-append-drop}
+use Rattle.std.proofs.Common.{◌≡◌, ℕ, ◌<◌, List, [], ◌∷◌, ◌++◌, take, drop, Option, Some, None, option_to_list, refl, ap, sym, ◌∙◌, append-nil, append_assoc, take-append-drop}
 use mathlib.Core.List.{IsPrefix}
 use Rattle.std.proofs.lemmas.List.Concat.{flat_map-append}
 use Rattle.smbd_base.specs.declared.end_id.EndId.{EndId}
 use Rattle.smbd_base.specs.declared.end_id.EndId.TheVariants.{Client, Server}
 use Rattle.smbd_base.specs.declared.event.Event.{Event}
 use Rattle.smbd_base.specs.declared.event.Event.TheVariants.{Post, Submit, Emit, Take, Cut}
+use Rattle.smbd_base.specs.declared.agreed.Agreed.{Agreed}
 use Rattle.smbd_base.specs.Limits.{Limits, IsLawful}
 use Rattle.smbd_base.specs.Counts.{is_unheard, peer_of}
 use Rattle.smbd_base.specs.DataFrame.{data_frame_of}
 use Rattle.smbd_base.specs.Delivery.{and_piece, messages_delivered, pieces_taken, piece_in, piece_brought}
-use Rattle.smbd_base.specs.Joint.{AreAccepted, AreJoint, emitted_frames, taken_frames}
+use Rattle.smbd_base.specs.Joint.{AreAccepted, AreLinked, emitted_frames, taken_frames}
 use Rattle.smbd_base.specs.Pieces.{Piece}
-use Rattle.smbd_base.specs.History.{take_fault, bytes_expected, messages_submitted, payload_size, pieces_sent, IsLegal}
+use Rattle.smbd_base.specs.History.{take_fault, bytes_expected, messages_submitted, pieces_sent, settled, IsLegal}
 use Rattle.smbd_laws.proofs.Counting.{is_empty, unheard_is}
 use Rattle.smbd_laws.proofs.Gathering.{gathers}
 use Rattle.smbd_laws.proofs.Joining.{splits_each, filled_each}
 use Rattle.smbd_laws.proofs.Refusing.{brought-first, brought-later}
 use Rattle.smbd_laws.proofs.Sending.{pieces_carried, carried-more, later_frames, speaks}
-use Rattle.smbd_laws.proofs.Submitting.{pieces_submitted, submitted_some, size_some}
+use Rattle.smbd_laws.proofs.Settling.{Settles, settles, settles_within}
+use Rattle.smbd_laws.proofs.Submitting.{pieces_submitted, submitted_some, size_of, size_some}
 use Rattle.smbd_laws.proofs.Splitting.{split_front}
 
 -- ---- the pieces that were taken
@@ -55,34 +57,54 @@ carried_front (f ∷ front) more = (pieces_carried more, sym (flat_map-append (�
 -- ---- of two ends
 
 -- where an end took the first of a sender's frames, it took the first of the pieces that were sent
-pub taken_front : (x : EndId) (limits : Limits) (taker sender : List Event) → IsLawful limits → IsLegal (peer_of x) limits sender → AreAccepted x limits taker
-    → IsPrefix (taken_frames taker) (emitted_frames sender) → IsPrefix (pieces_taken x limits taker) (take (pieces_sent sender) (pieces_submitted limits sender))
-taken_front x limits taker sender lawful legal accepted front =
+pub taken_front : (x : EndId) (own other : Limits) (taker sender : List Event) (agreed : Agreed) → IsLawful other → IsLegal (peer_of x) other sender
+    → Settles (peer_of x) other sender agreed → AreAccepted x own taker → IsPrefix (taken_frames taker) (emitted_frames sender)
+    → IsPrefix (pieces_taken x own taker) (take (pieces_sent sender) (pieces_submitted (size_of agreed) sender))
+taken_front x own other taker sender agreed lawful legal s accepted front =
     let k = carried_front (taken_frames taker) front.0 in (
       k.0,
-      ap (λ (ps : List Piece). ps ++ k.0) (taken_carried x limits taker accepted) ∙ k.1
-          ∙ ap (λ (fs : List (List ℕ)). pieces_carried (later_frames fs)) front.1 ∙ (speaks (peer_of x) limits sender lawful legal).carried,
+      ap (λ (ps : List Piece). ps ++ k.0) (taken_carried x own taker accepted) ∙ k.1
+          ∙ ap (λ (fs : List (List ℕ)). pieces_carried (later_frames fs)) front.1 ∙ (speaks (peer_of x) other sender agreed lawful legal s).carried,
     )
 
 -- an end delivers the front of what a sender submitted whose frames it took
-pub delivered_front : (x : EndId) (limits : Limits) (taker sender : List Event) → IsLawful limits → IsLegal (peer_of x) limits sender → AreAccepted x limits taker
-    → IsPrefix (taken_frames taker) (emitted_frames sender) → IsPrefix (messages_delivered x limits taker) (messages_submitted sender)
-delivered_front x limits taker sender lawful legal accepted front =
-    let all = pieces_submitted limits sender in
-    let k = taken_front x limits taker sender lawful legal accepted front in
-    let is : pieces_taken x limits taker ++ (k.0 ++ drop (pieces_sent sender) all) ≡ all =
-    sym (append_assoc (pieces_taken x limits taker) k.0 (drop (pieces_sent sender) all)) ∙ ap (λ (ps : List Piece). ps ++ drop (pieces_sent sender) all) k.1
+delivered_settled : (x : EndId) (own other : Limits) (taker sender : List Event) (agreed : Agreed) → IsLawful other → IsLegal (peer_of x) other sender
+    → Settles (peer_of x) other sender agreed → AreAccepted x own taker → IsPrefix (taken_frames taker) (emitted_frames sender)
+    → IsPrefix (messages_delivered x own taker) (messages_submitted sender)
+delivered_settled x own other taker sender agreed lawful legal s accepted front =
+    let all = pieces_submitted (size_of agreed) sender in
+    let k = taken_front x own other taker sender agreed lawful legal s accepted front in
+    let is : pieces_taken x own taker ++ (k.0 ++ drop (pieces_sent sender) all) ≡ all =
+    sym (append_assoc (pieces_taken x own taker) k.0 (drop (pieces_sent sender) all)) ∙ ap (λ (ps : List Piece). ps ++ drop (pieces_sent sender) all) k.1
     ∙ take-append-drop (pieces_sent sender) all in
-    let size = size_some limits lawful in
-    let h = gathers x limits taker in
-    split_front (pieces_taken x limits taker) (k.0 ++ drop (pieces_sent sender) all) all (messages_delivered x limits taker) (messages_submitted sender)
-    h.rest [] (bytes_expected x limits taker) 0 (filled_each (payload_size limits) (messages_submitted sender) size) h.is.splits
-    (splits_each (payload_size limits) (messages_submitted sender) size (submitted_some (peer_of x) limits sender lawful legal)) is
+    let size = size_some (peer_of x) other sender agreed s in
+    let h = gathers x own taker in
+    split_front (pieces_taken x own taker) (k.0 ++ drop (pieces_sent sender) all) all (messages_delivered x own taker) (messages_submitted sender)
+    h.rest [] (bytes_expected x own taker) 0 (filled_each (size_of agreed) (messages_submitted sender) size) h.is.splits
+    (splits_each (size_of agreed) (messages_submitted sender) size (submitted_some (peer_of x) other sender legal)) is
 
-pub server_delivers : (limits : Limits) (client server : List Event) → IsLawful limits → AreJoint limits limits client server
-    → IsPrefix (messages_delivered Server limits server) (messages_submitted client)
-server_delivers limits client server lawful j = delivered_front Server limits server client lawful j.client_legal j.server_accepted j.to_server
+-- whatever the sender took, as long as its peer's MaxFragmentedSize fits its field
+pub delivered_front : (x : EndId) (own other : Limits) (taker sender : List Event) → IsLawful own → IsLawful other → IsLegal (peer_of x) other sender → AreAccepted x own taker
+    → IsPrefix (taken_frames taker) (emitted_frames sender) → (settled (peer_of x) other sender).message_max < 4294967296
+    → IsPrefix (messages_delivered x own taker) (messages_submitted sender)
+delivered_front x own other taker sender lawful peer legal accepted front small =
+    let s = settles (peer_of x) other sender peer small in
+    delivered_settled x own other taker sender s.0 peer legal s.1 accepted front
 
-pub client_delivers : (limits : Limits) (client server : List Event) → IsLawful limits → AreJoint limits limits client server
-    → IsPrefix (messages_delivered Client limits client) (messages_submitted server)
-client_delivers limits client server lawful j = delivered_front Client limits client server lawful j.server_legal j.client_accepted j.to_client
+-- two ends that took what the other sent
+pub delivered_both : (x : EndId) (own other : Limits) (taker sender : List Event) → IsLawful own → IsLawful other → IsLegal x own taker → IsLegal (peer_of x) other sender
+    → AreAccepted x own taker → IsPrefix (taken_frames taker) (emitted_frames sender) → IsPrefix (taken_frames sender) (emitted_frames taker)
+    → IsPrefix (messages_delivered x own taker) (messages_submitted sender)
+delivered_both x own other taker sender lawful peer following legal accepted front back =
+    let s = settles_within x own other taker sender lawful peer following back in
+    delivered_settled x own other taker sender s.agreed peer legal s.settles accepted front
+
+pub server_delivers : (client_limits server_limits : Limits) (client server : List Event) → IsLawful client_limits → IsLawful server_limits
+    → AreLinked client_limits server_limits client server → IsPrefix (messages_delivered Server server_limits server) (messages_submitted client)
+server_delivers client_limits server_limits client server lawful peer j =
+    delivered_both Server server_limits client_limits server client peer lawful j.server_legal j.client_legal j.server_accepted j.to_server j.to_client
+
+pub client_delivers : (client_limits server_limits : Limits) (client server : List Event) → IsLawful client_limits → IsLawful server_limits
+    → AreLinked client_limits server_limits client server → IsPrefix (messages_delivered Client client_limits client) (messages_submitted server)
+client_delivers client_limits server_limits client server lawful peer j =
+    delivered_both Client client_limits server_limits client server lawful peer j.client_legal j.server_legal j.client_accepted j.to_client j.to_server

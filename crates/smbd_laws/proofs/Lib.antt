@@ -4,6 +4,8 @@ pub mod Fitting
 pub mod Refusing
 pub mod Gathering
 pub mod Counting
+pub mod Opening
+pub mod Settling
 pub mod Submitting
 pub mod Sending
 pub mod Delivering

@@ -1,23 +1,29 @@
 -- What is delivered where each frame was taken.
-use Rattle.std.proofs.Common.{◌≡◌, ◌⊎◌, inl, inr, ℕ, zero, suc, ◌+◌, ◌-◌, ◌≤◌, ◌<◌, List, [], ◌∷◌, ◌++◌, length, take, drop, refl, ap, subst, sym, ◌∙◌, append-nil, append_assoc, add-one, arith}
+use Rattle.std.proofs.Common.{◌≡◌, ◌⊎◌, inl, inr, ℕ, true, false, zero, suc, ◌+◌, ◌-◌, ◌≤◌, ◌<◌, List, [], ◌∷◌, ◌++◌, length, take, drop, refl, ap, subst, sym, ◌∙◌, append-nil, append_assoc, add-one, arith}
 use Rattle.std.specs.List.{flat_map}
 use Rattle.std.proofs.Math.Seq.{take-append-add, take-nil}
+use mathlib.Core.List.{IsPrefix}
+use Rattle.std.proofs.lemmas.Bool.{cases_Bool}
 use Rattle.std.proofs.lemmas.List.{length-append, length-drop, take-append-le, take-append-drop}
 use Rattle.std.proofs.lemmas.List.Concat.{flat_map-append}
 use Rattle.smbd_base.specs.declared.end_id.EndId.{EndId}
 use Rattle.smbd_base.specs.declared.event.Event.{Event}
+use Rattle.smbd_base.specs.declared.event.Event.TheVariants.{Post, Submit, Emit, Take, Cut}
 use Rattle.smbd_base.specs.Limits.{Limits, IsLawful}
 use Rattle.smbd_base.specs.Counts.{peer_of}
 use Rattle.smbd_base.specs.Delivery.{messages_delivered, pieces_taken}
 use Rattle.smbd_base.specs.Joint.{AreAccepted, emitted_frames, taken_frames}
 use Rattle.smbd_base.specs.Pieces.{Piece, pieces_of, joined, IsRun, IsRest, AreFilled, SplitsInto}
-use Rattle.smbd_base.specs.History.{bytes_expected, messages_submitted, payload_size, pieces_sent, IsLegal}
-use Rattle.smbd_laws.proofs.Delivering.{taken_carried}
+use Rattle.smbd_base.specs.History.{bytes_expected, messages_submitted, payload_size, pieces_sent, settled, is_agreed, IsLegal}
+use Rattle.smbd_base.proofs.BalanceLemmas.{silent_opening}
+use Rattle.smbd_base.proofs.Inversion.{Emits, emits, sending_parts}
+use Rattle.smbd_laws.proofs.Delivering.{taken_carried, taken_front}
 use Rattle.smbd_laws.proofs.Gathering.{gathers}
 use Rattle.smbd_laws.proofs.Joining.{AreSome, pieces_of-whole, pieces_of-filled, joined-pieces_of}
 use Rattle.smbd_laws.proofs.Sending.{pieces_carried, later_frames, speaks}
 use Rattle.smbd_laws.proofs.Splitting.{pieces_in, one_way, filled_after}
-use Rattle.smbd_laws.proofs.Submitting.{pieces_submitted, submitted_some, size_some}
+use Rattle.smbd_laws.proofs.Settling.{settles_own, settles_least, stays_settled, least_agreement}
+use Rattle.smbd_laws.proofs.Submitting.{pieces_submitted, submitted_some, size_of, size_some}
 
 -- ---- a run that is cut through
 
@@ -101,21 +107,70 @@ splits_first size (suc n) count (m ∷ messages) size_is some all next =
     ap (λ (k : ℕ). take k (own ++ flat_map (pieces_of size) messages)) (sym is) ∙ take-append-add own (flat_map (pieces_of size) messages) (count - length own) in
     rw front (splits_more size m (take (count - length own) (flat_map (pieces_of size) messages)) (take n messages) size_is some.0 h)
 
+-- ---- an end that is not agreed
+
+unagreed_before : (side : EndId) (limits : Limits) (e : Event) (past : List Event) → is_agreed side limits (e ∷ past) ≡ false → is_agreed side limits past ≡ false
+unagreed_before side limits e past none =
+    elim (cases_Bool (is_agreed side limits past)) as (λ _. is_agreed side limits past ≡ false) [
+      | inl was ↦ (let later = (stays_settled side limits e past was).agreed in absurd (let b : ⊥ = cc in b))
+      | inr was ↦ was
+    ]
+
+none_more : (side : EndId) (limits : Limits) (past : List Event) (f : List ℕ) → Emits side limits past f → is_agreed side limits past ≡ false → pieces_sent past ≡ 0
+    → pieces_sent (Emit f ∷ past) ≡ 0
+none_more side limits past f e none was =
+    elim e.chosen.why as (λ _. pieces_sent (Emit f ∷ past) ≡ 0) [
+      | inl first ↦ (let silent = silent_opening side past first.0 in rw silent was)
+      | inr later ↦ (let agreed = (sending_parts side limits past e.going.closed later.1).agreed in absurd (let b : ⊥ = cc in b))
+    ]
+
+-- it has sent no piece
+unagreed_sent : (side : EndId) (limits : Limits) (past : List Event) → IsLegal side limits past → is_agreed side limits past ≡ false → pieces_sent past ≡ 0
+unagreed_sent side limits [] legal none = refl
+unagreed_sent side limits (Post n ∷ past) legal none = unagreed_sent side limits past legal.1 (unagreed_before side limits (Post n) past none)
+unagreed_sent side limits (Submit m ∷ past) legal none = unagreed_sent side limits past legal.1 (unagreed_before side limits (Submit m) past none)
+unagreed_sent side limits (Emit f ∷ past) legal none =
+    let was = unagreed_before side limits (Emit f) past none in
+    none_more side limits past f (emits side limits past f legal.0) was (unagreed_sent side limits past legal.1 was)
+unagreed_sent side limits (Take f ∷ past) legal none = unagreed_sent side limits past legal.1 (unagreed_before side limits (Take f) past none)
+unagreed_sent side limits (Cut ∷ past) legal none = unagreed_sent side limits past legal.1 (unagreed_before side limits Cut past none)
+
+nothing_before : {A : Type 0} (xs : List A) → IsPrefix xs [] → xs ≡ []
+nothing_before [] k = refl
+nothing_before (x ∷ xs) k = absurd (let e = k.1 in let b : ⊥ = cc in b)
+
+-- and nothing of it was delivered
+pub delivered_none : (x : EndId) (own other : Limits) (taker sender : List Event) → IsLawful own → IsLawful other → IsLegal (peer_of x) other sender
+    → AreAccepted x own taker → IsPrefix (taken_frames taker) (emitted_frames sender) → is_agreed (peer_of x) other sender ≡ false → messages_delivered x own taker ≡ []
+delivered_none x own other taker sender lawful peer legal accepted front none =
+    let s = settles_least (peer_of x) other sender none in
+    let k = taken_front x own other taker sender least_agreement peer legal s accepted front in
+    let sent = unagreed_sent (peer_of x) other sender legal none in
+    let is : pieces_taken x own taker ≡ [] = nothing_before (pieces_taken x own taker)
+    (subst (λ (n : ℕ). IsPrefix (pieces_taken x own taker) (take n (pieces_submitted (size_of least_agreement) sender))) sent k) in
+    let h = gathers x own taker in
+    let nothing : SplitsInto [] [] [] 0 = record { runs = []; whole = tt; all = refl; each = refl; last = refl } in
+    let split = subst (λ (ps : List Piece). SplitsInto ps [] [] 0) (sym is) nothing in
+    (one_way (pieces_taken x own taker) (messages_delivered x own taker) [] h.rest [] (bytes_expected x own taker) 0 h.filled h.is.splits split).0
+
 -- ---- of two ends
 
--- an end that has taken each frame of its peer has delivered the messages of which each piece was sent
-pub delivered_pace : (x : EndId) (limits : Limits) (taker sender : List Event) (n : ℕ) → IsLawful limits → IsLegal (peer_of x) limits sender
-    → AreAccepted x limits taker → taken_frames taker ≡ emitted_frames sender
-    → length (flat_map (pieces_of (payload_size limits)) (take n (messages_submitted sender))) ≤ pieces_sent sender
-    → pieces_sent sender < length (flat_map (pieces_of (payload_size limits)) (take (n + 1) (messages_submitted sender))) ⊎ length (messages_submitted sender) ≤ n
-    → messages_delivered x limits taker ≡ take n (messages_submitted sender)
-delivered_pace x limits taker sender n lawful legal accepted each all next =
-    let size = size_some limits lawful in
+-- an end that has taken each frame of an agreed peer has delivered the messages of which each piece was sent
+pub delivered_pace : (x : EndId) (own other : Limits) (taker sender : List Event) (n : ℕ) → IsLawful own → IsLawful other → IsLegal (peer_of x) other sender
+    → AreAccepted x own taker → taken_frames taker ≡ emitted_frames sender
+    → is_agreed (peer_of x) other sender ≡ true → (settled (peer_of x) other sender).message_max < 4294967296
+    → length (flat_map (pieces_of (payload_size (peer_of x) other sender)) (take n (messages_submitted sender))) ≤ pieces_sent sender
+    → pieces_sent sender < length (flat_map (pieces_of (payload_size (peer_of x) other sender)) (take (n + 1) (messages_submitted sender))) ⊎ length (messages_submitted sender) ≤ n
+    → messages_delivered x own taker ≡ take n (messages_submitted sender)
+delivered_pace x own other taker sender n lawful peer legal accepted each agreed small all next =
+    let s = settles_own (peer_of x) other sender peer agreed small in
+    let size = size_some (peer_of x) other sender (settled (peer_of x) other sender) s in
     let submitted = messages_submitted sender in
-    let is : pieces_taken x limits taker ≡ take (pieces_sent sender) (pieces_submitted limits sender) =
-    taken_carried x limits taker accepted ∙ ap (λ (fs : List (List ℕ)). pieces_carried (later_frames fs)) each ∙ (speaks (peer_of x) limits sender lawful legal).carried in
-    let s = splits_first (payload_size limits) n (pieces_sent sender) submitted size (submitted_some (peer_of x) limits sender lawful legal) all
-    (subst (λ (k : ℕ). pieces_sent sender < length (flat_map (pieces_of (payload_size limits)) (take k submitted)) ⊎ length submitted ≤ n) (add-one n) next) in
-    let h = gathers x limits taker in
-    let split = subst (λ (ps : List Piece). SplitsInto ps (take n submitted) s.rest s.expected) (sym is) s.splits in
-    (one_way (pieces_taken x limits taker) (messages_delivered x limits taker) (take n submitted) h.rest s.rest (bytes_expected x limits taker) s.expected h.filled h.is.splits split).0
+    let is : pieces_taken x own taker ≡ take (pieces_sent sender) (pieces_submitted (payload_size (peer_of x) other sender) sender) =
+    taken_carried x own taker accepted ∙ ap (λ (fs : List (List ℕ)). pieces_carried (later_frames fs)) each
+    ∙ (speaks (peer_of x) other sender (settled (peer_of x) other sender) peer legal s).carried in
+    let f = splits_first (payload_size (peer_of x) other sender) n (pieces_sent sender) submitted size (submitted_some (peer_of x) other sender legal) all
+    (subst (λ (k : ℕ). pieces_sent sender < length (flat_map (pieces_of (payload_size (peer_of x) other sender)) (take k submitted)) ⊎ length submitted ≤ n) (add-one n) next) in
+    let h = gathers x own taker in
+    let split = subst (λ (ps : List Piece). SplitsInto ps (take n submitted) f.rest f.expected) (sym is) f.splits in
+    (one_way (pieces_taken x own taker) (messages_delivered x own taker) (take n submitted) h.rest f.rest (bytes_expected x own taker) f.expected h.filled h.is.splits split).0

@@ -1,48 +1,122 @@
 -- What it means that a frame is not refused.
-use Rattle.std.proofs.Common.{◌≡◌, ℕ, ◌<◌, ◌≤◌, ◌==◌, nat_lt, nat_eq, Bool, true, false, not, ◌&&◌, cond, List, ◌∷◌, length, Option, Some, None, is_none, Result, Ok, Err, is_ok, refl, ap, arith}
+use Rattle.std.proofs.Common.{◌≡◌, ℕ, ◌<◌, ◌≤◌, ◌==◌, nat_lt, Bool, true, false, not, ◌&&◌, cond, List, [], ◌∷◌, length, Option, Some, None, is_none, Result, Ok, Err, is_ok, refl, ap, sym, ◌∙◌, arith}
 use Rattle.std.proofs.lemmas.Bool.Decides.{nat_tests}
-use lib.Pointwise.{pointwise, bytes_decides}
 use Rattle.smbd_base.specs.declared.end_id.EndId.{EndId}
+use Rattle.smbd_base.specs.declared.end_id.EndId.TheVariants.{Client, Server}
 use Rattle.smbd_base.specs.declared.event.Event.{Event}
-use Rattle.smbd_base.specs.declared.event.Event.TheVariants.{Take}
+use Rattle.smbd_base.specs.declared.event.Event.TheVariants.{Post, Submit, Emit, Take, Cut}
 use Rattle.smbd_base.specs.declared.faults.Broken.{Broken}
 use Rattle.smbd_base.specs.declared.faults.FrameFault.{FrameFault}
+use Rattle.smbd_base.specs.declared.faults.NegotiateFault.{NegotiateFault}
 use Rattle.smbd_base.specs.declared.faults.TakeFault.{TakeFault}
 use Rattle.smbd_base.specs.declared.faults.TakeFault.TheVariants as faults
 use Rattle.smbd_base.specs.Limits.{Limits}
 use Rattle.smbd_base.specs.Counts.{is_unheard, is_out_of_turn}
 use Rattle.smbd_base.specs.DataFrame.{DataFrame, data_frame_of}
 use Rattle.smbd_base.specs.Pieces.{Piece, gather_fault}
-use Rattle.smbd_base.specs.History.{take_fault, fault_expecting, data_fault, broken_fault, bytes_expected, expected_after, awaited_frame}
+use Rattle.smbd_base.specs.NegotiateMessages.{request_fault}
+use Rattle.smbd_base.specs.History.{take_fault, fault_expecting, negotiation_fault, negotiate_fault, data_fault, broken_fault, bytes_expected, expected_after, peer_opening, is_version_fault, is_server, is_version_refused}
 use Rattle.smbd_base.specs.Delivery.{piece_in, piece_brought}
 
 -- ---- the last test of a frame
 
-last_test : (turn long unheard fixed : Bool) (over : TakeFault) (later : Option TakeFault)
-    → is_none (cond turn (Some faults.OutOfTurn) (cond long (Some over) (cond unheard (cond fixed None (Some faults.NotFixed)) later))) ≡ true → unheard ≡ false → is_none later ≡ true
-last_test true long unheard fixed over later e heard = absurd cc
-last_test false true unheard fixed over later e heard = absurd cc
-last_test false false true fixed over later e heard = absurd cc
-last_test false false false fixed over later e heard = e
+last_test : (turn long unheard : Bool) (over : TakeFault) (first later : Option TakeFault)
+    → is_none (cond turn (Some faults.OutOfTurn) (cond long (Some over) (cond unheard first later))) ≡ true → is_none (cond unheard first later) ≡ true
+last_test true long unheard over first later e = absurd cc
+last_test false true unheard over first later e = absurd cc
+last_test false false unheard over first later e = e
+
+unfaulted : (o : Option NegotiateFault) → is_none (negotiate_fault o) ≡ true → o ≡ None
+unfaulted None e = refl
+unfaulted (Some fault) e = absurd cc
+
+-- a first frame that is not refused is the negotiation message that is awaited
+pub accepted_first : (side : EndId) (limits : Limits) (past : List Event) (frame : List ℕ) → is_none (take_fault side limits past frame) ≡ true → is_unheard past ≡ true
+    → negotiation_fault side limits frame ≡ None
+unfolding take_fault fault_expecting
+accepted_first side limits past frame e unheard =
+    let last = last_test (is_out_of_turn side past) (nat_lt limits.receive_size (length frame)) (is_unheard past) (faults.Oversize (length frame) limits.receive_size)
+    (negotiate_fault (negotiation_fault side limits frame)) (data_fault limits.fragmented_size (bytes_expected side limits past) (data_frame_of frame)) e in
+    unfaulted (negotiation_fault side limits frame) (rw unheard at last)
 
 -- a later frame that is not refused is a data transfer message that may be taken
 accepted_data : (side : EndId) (limits : Limits) (past : List Event) (frame : List ℕ) → is_none (take_fault side limits past frame) ≡ true → is_unheard past ≡ false
     → is_none (data_fault limits.fragmented_size (bytes_expected side limits past) (data_frame_of frame)) ≡ true
 unfolding take_fault fault_expecting
 accepted_data side limits past frame e heard =
-    last_test (is_out_of_turn side past) (nat_lt limits.receive_size (length frame)) (is_unheard past) (pointwise nat_eq frame (awaited_frame side limits))
-    (faults.Oversize (length frame) limits.receive_size) (data_fault limits.fragmented_size (bytes_expected side limits past) (data_frame_of frame)) e heard
+    let last = last_test (is_out_of_turn side past) (nat_lt limits.receive_size (length frame)) (is_unheard past) (faults.Oversize (length frame) limits.receive_size)
+    (negotiate_fault (negotiation_fault side limits frame)) (data_fault limits.fragmented_size (bytes_expected side limits past) (data_frame_of frame)) e in
+    rw heard at last
+
+-- ---- no fault of the version
+
+version_by : (turn long unheard : Bool) (len most : ℕ) (first later : Option TakeFault) → (unheard ≡ true → is_version_fault first ≡ false) → is_version_fault later ≡ false
+    → is_version_fault (cond turn (Some faults.OutOfTurn) (cond long (Some (faults.Oversize len most)) (cond unheard first later))) ≡ false
+version_by true long unheard len most first later f l = refl
+version_by false true unheard len most first later f l = refl
+version_by false false true len most first later f l = f refl
+version_by false false false len most first later f l = l
+
+broken_version : (empty : Bool) (o : Option Broken) → is_version_fault (cond empty None (broken_fault o)) ≡ false
+broken_version true o = refl
+broken_version false None = refl
+broken_version false (Some broken) = refl
+
+data_version : (max expected : ℕ) (r : Result DataFrame FrameFault) → is_version_fault (data_fault max expected r) ≡ false
+data_version max expected (Err fault) = refl
+data_version max expected (Ok d) = broken_version (length d.payload == 0) (gather_fault max expected (length d.payload) d.remaining)
+
+not_both : (a b : Bool) → a ≡ false → (a && b) ≡ false
+not_both true b e = absurd cc
+not_both false b e = refl
+
+both_not : (a : Bool) → (a && false) ≡ false
+both_not true = refl
+both_not false = refl
+
+take_version : (limits : Limits) (past : List Event) (f : List ℕ) (unheard : Bool) → is_unheard past ≡ unheard → request_fault (cond unheard f (peer_opening past)) ≡ None
+    → is_version_fault (take_fault Server limits past f) ≡ false
+unfolding take_fault fault_expecting
+take_version limits past f unheard is sound =
+    version_by (is_out_of_turn Server past) (nat_lt limits.receive_size (length f)) (is_unheard past) (length f) limits.receive_size
+    (negotiate_fault (request_fault f)) (data_fault limits.fragmented_size (bytes_expected Server limits past) (data_frame_of f))
+    (λ first. (let same : unheard ≡ true = sym is ∙ first in let none : request_fault f ≡ None = rw same at sound in rw none refl))
+    (data_version limits.fragmented_size (bytes_expected Server limits past) (data_frame_of f))
+
+-- a server whose client sent a request without a fault refuses no version
+server_accepts : (limits : Limits) (past : List Event) → (is_unheard past ≡ false → request_fault (peer_opening past) ≡ None) → is_version_refused Server limits past ≡ false
+server_accepts limits [] sound = refl
+server_accepts limits (Post n ∷ past) sound = server_accepts limits past sound
+server_accepts limits (Submit m ∷ past) sound = server_accepts limits past sound
+server_accepts limits (Emit f ∷ past) sound = server_accepts limits past sound
+server_accepts limits (Take f ∷ past) sound =
+    not_both (is_version_fault (take_fault Server limits past f)) (is_server Server) (take_version limits past f (is_unheard past) refl (sound refl))
+server_accepts limits (Cut ∷ past) sound = server_accepts limits past sound
+
+-- and a client never refuses one so that it still answers
+client_accepts : (limits : Limits) (past : List Event) → is_version_refused Client limits past ≡ false
+client_accepts limits [] = refl
+client_accepts limits (Post n ∷ past) = client_accepts limits past
+client_accepts limits (Submit m ∷ past) = client_accepts limits past
+client_accepts limits (Emit f ∷ past) = client_accepts limits past
+client_accepts limits (Take f ∷ past) = both_not (is_version_fault (take_fault Client limits past f))
+client_accepts limits (Cut ∷ past) = client_accepts limits past
+
+-- no version was refused where the first frame that was taken has no fault
+pub no_version_refused : (side : EndId) (limits : Limits) (past : List Event) → (side ≡ Server → is_unheard past ≡ false → request_fault (peer_opening past) ≡ None)
+    → is_version_refused side limits past ≡ false
+no_version_refused Client limits past sound = client_accepts limits past
+no_version_refused Server limits past sound = server_accepts limits past (sound refl)
 
 -- ---- a frame that is not refused
 
 -- the first frame
 pub taken-first : (side : EndId) (limits : Limits) (past : List Event) (frame : List ℕ) → is_out_of_turn side past ≡ false → length frame ≤ limits.receive_size
-    → is_unheard past ≡ true → frame ≡ awaited_frame side limits → take_fault side limits past frame ≡ None
+    → is_unheard past ≡ true → negotiation_fault side limits frame ≡ None → take_fault side limits past frame ≡ None
 unfolding take_fault fault_expecting
-taken-first side limits past frame turn short unheard is =
+taken-first side limits past frame turn short unheard sound =
     let small : nat_lt limits.receive_size (length frame) ≡ false = grind (arith, nat_tests) in
-    let same : pointwise nat_eq frame (awaited_frame side limits) ≡ true = (bytes_decides frame (awaited_frame side limits)).1 is in
-    rw (turn, small, unheard, same) refl
+    rw (turn, small, unheard) (ap (λ (o : Option NegotiateFault). negotiate_fault o) sound)
 
 -- a later frame
 pub taken-later : (side : EndId) (limits : Limits) (past : List Event) (frame : List ℕ) → is_out_of_turn side past ≡ false → length frame ≤ limits.receive_size

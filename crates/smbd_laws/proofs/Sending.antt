@@ -14,19 +14,22 @@ use Rattle.smbd_base.specs.DataFrame.{DataFrame, data_frame_of, frame_bytes}
 use Rattle.smbd_base.specs.Delivery.{piece_in}
 use Rattle.smbd_base.specs.Joint.{emitted_frames}
 use Rattle.smbd_base.specs.Pieces.{Piece, pieces_of}
-use Rattle.smbd_base.specs.History.{opening_frame, data_frame_due, send_size, payload_size, pieces_sent, pieces_waiting, carries, is_agreed, is_welcomed, IsLegal}
+use Rattle.smbd_base.specs.declared.agreed.Agreed.{Agreed}
+use Rattle.smbd_base.specs.NegotiateMessages.{IsLawfulAgreement}
+use Rattle.smbd_base.specs.History.{data_frame_due, frame_due, pieces_sent, pieces_waiting, carries, is_agreed, is_new, IsLegal}
 use Rattle.smbd_base.proofs.BalanceLemmas.{balanced, silent_opening}
 use Rattle.smbd_base.proofs.FrameLaws.{data_frame_of-empty, data_frame_of-filled, length-frame_bytes-empty, length-frame_bytes-filled}
-use Rattle.smbd_base.proofs.Inversion.{Emits, emits, both, from_not}
+use Rattle.smbd_base.proofs.Inversion.{Emits, emits, sending_parts}
 use Rattle.smbd_laws.proofs.Counting.{is_empty, silent_is}
 use Rattle.smbd_laws.proofs.Fitting.{not_zero}
-use Rattle.smbd_laws.proofs.Submitting.{IsSendable, sendable, pieces_submitted, submitted-more}
+use Rattle.smbd_laws.proofs.Settling.{Settles, settles_before}
+use Rattle.smbd_laws.proofs.Submitting.{IsSendable, sendable, size_of, pieces_submitted, submitted-more}
 
 -- ---- the frame that carries a piece
 
 -- the frame is short enough to be sent, can be read, and carries this piece
-record IsSentWith (limits : Limits) (frame : List ℕ) (o : Option Piece) : Type 0 where
-  short : length frame ≤ send_size limits
+record IsSentWith (longest : ℕ) (frame : List ℕ) (o : Option Piece) : Type 0 where
+  short : length frame ≤ longest
   read : is_ok (data_frame_of frame) ≡ true
   brings : piece_in (data_frame_of frame) ≡ o
 
@@ -34,32 +37,39 @@ abbrev pub first_of : List Piece → Option Piece
 first_of [] = None
 first_of (p ∷ pieces) = Some p
 
-sent_empty : (limits : Limits) (grantable : ℕ) → IsLawful limits → grantable < 65536 → IsSentWith limits (frame_bytes limits.credits grantable false 0 []) None
-sent_empty limits grantable lawful small =
+-- a settlement whose frames and messages fit their fields
+record HasFields (agreed : Agreed) : Type 0 where
+  lawful : IsLawfulAgreement agreed
+  small : agreed.message_max < 4294967296
+
+sent_empty : (limits : Limits) (longest grantable : ℕ) → IsLawful limits → 128 ≤ longest → grantable < 65536
+    → IsSentWith longest (frame_bytes limits.credits grantable false 0 []) None
+sent_empty limits longest grantable lawful long small =
     let says = data_frame_of-empty limits.credits grantable false 0 (omega (arith, lawful.credits.1)) small in
     record {
-      short = omega (arith, length-frame_bytes-empty limits.credits grantable false 0, lawful.send_size.0, lawful.receive_size.0);
+      short = omega (arith, length-frame_bytes-empty limits.credits grantable false 0);
       read = rw says refl;
       brings = rw says refl;
     }
 
-sent_filled : (limits : Limits) (grantable : ℕ) (flag : Bool) (p : Piece) → IsLawful limits → grantable < 65536 → IsSendable limits p
-    → IsSentWith limits (frame_bytes limits.credits grantable flag p.remaining p.payload) (Some p)
-sent_filled limits grantable flag p lawful small fits =
+sent_filled : (limits : Limits) (agreed : Agreed) (grantable : ℕ) (flag : Bool) (p : Piece) → IsLawful limits → HasFields agreed → grantable < 65536 → IsSendable agreed p
+    → IsSentWith agreed.send_size (frame_bytes limits.credits grantable flag p.remaining p.payload) (Some p)
+sent_filled limits agreed grantable flag p lawful fields small fits =
+    let size = fields.lawful.send_size in
     let says = data_frame_of-filled limits.credits grantable flag p.remaining p.payload (omega (arith, lawful.credits.1)) small
-    (omega (arith, fits.within, lawful.fragmented_size.1)) fits.filled (omega (arith, fits.short, lawful.send_size.1)) in
+    (omega (arith, fits.within, fields.small)) fits.filled (omega (arith, fits.short, size.1)) in
     let some = not_zero (length p.payload) fits.filled in
     record {
-      short = omega (arith, length-frame_bytes-filled limits.credits grantable flag p.remaining p.payload fits.filled, fits.short, lawful.send_size.0, lawful.receive_size.0);
+      short = omega (arith, length-frame_bytes-filled limits.credits grantable flag p.remaining p.payload fits.filled, fits.short, size.0);
       read = rw says refl;
       brings = rw (says, some) refl;
     }
 
-due_sent : (limits : Limits) (held grantable : ℕ) (waiting : List Piece) → IsLawful limits → grantable < 65536 → All (IsSendable limits) waiting
-    → IsSentWith limits (data_frame_due limits held grantable waiting) (first_of waiting)
-due_sent limits held grantable [] lawful small fit = sent_empty limits grantable lawful small
-due_sent limits held grantable (p ∷ later) lawful small fit =
-    sent_filled limits grantable (not (length later == 0) && nat_le held 2) p lawful small (All-head (IsSendable limits) p later fit)
+due_sent : (limits : Limits) (agreed : Agreed) (held grantable : ℕ) (waiting : List Piece) → IsLawful limits → HasFields agreed → grantable < 65536
+    → All (IsSendable agreed) waiting → IsSentWith agreed.send_size (data_frame_due limits held grantable waiting) (first_of waiting)
+due_sent limits agreed held grantable [] lawful fields small fit = sent_empty limits agreed.send_size grantable lawful fields.lawful.send_size.0 small
+due_sent limits agreed held grantable (p ∷ later) lawful fields small fit =
+    sent_filled limits agreed grantable (not (length later == 0) && nat_le held 2) p lawful fields small (All-head (IsSendable agreed) p later fit)
 
 -- ---- the frames that were sent
 
@@ -77,35 +87,29 @@ abbrev pub later_frames : List (List ℕ) → List (List ℕ)
 later_frames [] = []
 later_frames (f ∷ frames) = frames
 
--- a data transfer message that a peer of these limits can receive and read
-pub record IsSound (limits : Limits) (frame : List ℕ) : Type 0 where
-  pub short : length frame ≤ send_size limits
+-- a data transfer message of at most so many bytes that can be read
+pub record IsSound (longest : ℕ) (frame : List ℕ) : Type 0 where
+  pub short : length frame ≤ longest
   pub read : is_ok (data_frame_of frame) ≡ true
 
-abbrev pub AreSound : Limits → List (List ℕ) → Type 0
-AreSound limits [] = Unit {0}
-AreSound limits (f ∷ frames) = IsSound limits f × AreSound limits frames
+abbrev pub AreSound : ℕ → List (List ℕ) → Type 0
+AreSound longest [] = Unit {0}
+AreSound longest (f ∷ frames) = IsSound longest f × AreSound longest frames
 
-sound_more : (limits : Limits) (frames : List (List ℕ)) (f : List ℕ) → AreSound limits frames → IsSound limits f → AreSound limits (frames ++ f ∷ [])
-sound_more limits [] f s here = (here, tt)
-sound_more limits (g ∷ frames) f s here = (s.0, sound_more limits frames f s.1 here)
-
--- the first frame, where there is one
-abbrev pub OpensWith : List ℕ → List (List ℕ) → Type 0
-OpensWith first [] = Unit {0}
-OpensWith first (f ∷ frames) = f ≡ first
+sound_more : (longest : ℕ) (frames : List (List ℕ)) (f : List ℕ) → AreSound longest frames → IsSound longest f → AreSound longest (frames ++ f ∷ [])
+sound_more longest [] f s here = (here, tt)
+sound_more longest (g ∷ frames) f s here = (s.0, sound_more longest frames f s.1 here)
 
 -- the frames are the negotiation message, and then data transfer messages that carry so many of these pieces
-pub record Speaks (first : List ℕ) (limits : Limits) (frames : List (List ℕ)) (sent : ℕ) (pieces : List Piece) : Type 0 where
-  pub opens : OpensWith first frames
-  pub sound : AreSound limits (later_frames frames)
+pub record Speaks (longest : ℕ) (frames : List (List ℕ)) (sent : ℕ) (pieces : List Piece) : Type 0 where
+  pub sound : AreSound longest (later_frames frames)
   pub carried : pieces_carried (later_frames frames) ≡ take sent pieces
   pub within : sent ≤ length pieces
 
-speaks_first : (first : List ℕ) (limits : Limits) (frames : List (List ℕ)) (f : List ℕ) (sent : ℕ) (pieces : List Piece) → Speaks first limits frames sent pieces
-    → is_empty frames ≡ true → f ≡ first → Speaks first limits (frames ++ f ∷ []) sent pieces
-speaks_first first limits [] f sent pieces h none is = record { opens = is; sound = tt; carried = h.carried; within = h.within }
-speaks_first first limits (g ∷ frames) f sent pieces h none is = absurd cc
+speaks_first : (longest : ℕ) (frames : List (List ℕ)) (f : List ℕ) (sent : ℕ) (pieces : List Piece) → Speaks longest frames sent pieces
+    → is_empty frames ≡ true → Speaks longest (frames ++ f ∷ []) sent pieces
+speaks_first longest [] f sent pieces h none = record { sound = tt; carried = h.carried; within = h.within }
+speaks_first longest (g ∷ frames) f sent pieces h none = absurd cc
 
 record TakesOne (n : ℕ) (ps : List Piece) (p : Piece) : Type 0 where
   front : take (n + 1) ps ≡ take n ps ++ p ∷ []
@@ -139,22 +143,20 @@ front_more frames f sent pieces (p ∷ later) carried within rest brings =
     rw (carries_is (data_frame_of f), brings)
     (carried-more frames f ∙ rw brings (ap (λ (ps : List Piece). ps ++ p ∷ []) carried ∙ sym one.front), one.within)
 
-speaks_later : (first : List ℕ) (limits : Limits) (frames : List (List ℕ)) (f : List ℕ) (sent : ℕ) (pieces : List Piece) → Speaks first limits frames sent pieces
-    → is_empty frames ≡ false → IsSentWith limits f (first_of (drop sent pieces)) → Speaks first limits (frames ++ f ∷ []) (cond (carries (data_frame_of f)) (sent + 1) sent) pieces
-speaks_later first limits [] f sent pieces h some is = absurd cc
-speaks_later first limits (g ∷ frames) f sent pieces h some is =
+speaks_later : (longest : ℕ) (frames : List (List ℕ)) (f : List ℕ) (sent : ℕ) (pieces : List Piece) → Speaks longest frames sent pieces
+    → is_empty frames ≡ false → IsSentWith longest f (first_of (drop sent pieces)) → Speaks longest (frames ++ f ∷ []) (cond (carries (data_frame_of f)) (sent + 1) sent) pieces
+speaks_later longest [] f sent pieces h some is = absurd cc
+speaks_later longest (g ∷ frames) f sent pieces h some is =
     let more = front_more frames f sent pieces (drop sent pieces) h.carried h.within refl is.brings in
     record {
-      opens = h.opens;
-      sound = sound_more limits frames f h.sound (record { short = is.short; read = is.read });
+      sound = sound_more longest frames f h.sound (record { short = is.short; read = is.read });
       carried = more.0;
       within = more.1;
     }
 
-speaks_submit : (first : List ℕ) (limits : Limits) (frames : List (List ℕ)) (sent : ℕ) (pieces more all : List Piece) → all ≡ pieces ++ more
-    → Speaks first limits frames sent pieces → Speaks first limits frames sent all
-speaks_submit first limits frames sent pieces more all is h = record {
-  opens = h.opens;
+speaks_submit : (longest : ℕ) (frames : List (List ℕ)) (sent : ℕ) (pieces more all : List Piece) → all ≡ pieces ++ more
+    → Speaks longest frames sent pieces → Speaks longest frames sent all
+speaks_submit longest frames sent pieces more all is h = record {
   sound = h.sound;
   carried = h.carried ∙ sym (take-append-le sent pieces more h.within) ∙ ap (λ (ps : List Piece). take sent ps) (sym is);
   within = rw is (omega (arith, h.within, length-append pieces more));
@@ -168,36 +170,49 @@ sent_is silent carried n spoken = rw spoken refl
 sent_same : (silent : Bool) (carried : Bool) (n : ℕ) → silent ≡ true → cond (not silent && carried) (n + 1) n ≡ n
 sent_same silent carried n is = rw is refl
 
-speaks_emit : (side : EndId) (limits : Limits) (past : List Event) (f : List ℕ) → IsLawful limits → IsLegal side limits past → Emits side limits past f
-    → Speaks (opening_frame side limits) limits (emitted_frames past) (pieces_sent past) (pieces_submitted limits past)
-    → Speaks (opening_frame side limits) limits (emitted_frames (Emit f ∷ past)) (pieces_sent (Emit f ∷ past)) (pieces_submitted limits past)
-speaks_emit side limits past f lawful legal e h =
-    elim e.chosen.why as (λ _. Speaks (opening_frame side limits) limits (emitted_frames (Emit f ∷ past)) (pieces_sent (Emit f ∷ past)) (pieces_submitted limits past)) [
+-- the frame that an agreed end sends carries the first piece that waits
+sent_due : (side : EndId) (limits : Limits) (past : List Event) (f : List ℕ) (agreed : Agreed) → IsLawful limits → IsLegal side limits past → Settles side limits past agreed
+    → is_new past ≡ false → is_agreed side limits past ≡ true → frame_due side limits past ≡ f
+    → IsSentWith agreed.send_size f (first_of (drop (pieces_sent past) (pieces_submitted (size_of agreed) past)))
+sent_due side limits past f agreed lawful legal s opened settled_is is =
+    let b = balanced side limits past lawful legal opened in
+    let small : receives_grantable side past < 65536 = omega (arith, b.posted, b.taken, lawful.credits.1) in
+    let waiting = drop (pieces_sent past) (pieces_submitted (size_of agreed) past) in
+    let waits : pieces_waiting side limits past ≡ waiting =
+    ap (λ (a : Agreed). drop (pieces_sent past) (pieces_submitted (size_of a) past)) (s.is settled_is) in
+    let fit : All (IsSendable agreed) waiting =
+    All-drop (IsSendable agreed) (pieces_sent past) (pieces_submitted (size_of agreed) past) (sendable side limits past agreed legal s) in
+    let due : data_frame_due limits (credits_held side past) (receives_grantable side past) waiting ≡ f =
+    ap (λ (ps : List Piece). data_frame_due limits (credits_held side past) (receives_grantable side past) ps) (sym waits) ∙ is in
+    subst (λ (g : List ℕ). IsSentWith agreed.send_size g (first_of waiting)) due
+    (due_sent limits agreed (credits_held side past) (receives_grantable side past) waiting lawful (record { lawful = s.lawful; small = s.small }) small fit)
+
+speaks_emit : (side : EndId) (limits : Limits) (past : List Event) (f : List ℕ) (agreed : Agreed) → IsLawful limits → IsLegal side limits past → Settles side limits past agreed
+    → Emits side limits past f → Speaks agreed.send_size (emitted_frames past) (pieces_sent past) (pieces_submitted (size_of agreed) past)
+    → Speaks agreed.send_size (emitted_frames (Emit f ∷ past)) (pieces_sent (Emit f ∷ past)) (pieces_submitted (size_of agreed) past)
+speaks_emit side limits past f agreed lawful legal s e h =
+    elim e.chosen.why as (λ _. Speaks agreed.send_size (emitted_frames (Emit f ∷ past)) (pieces_sent (Emit f ∷ past)) (pieces_submitted (size_of agreed) past)) [
       | inl first ↦
           let silent : is_silent past ≡ true = silent_opening side past first.0 in
           rw (sent_same (is_silent past) (carries (data_frame_of f)) (pieces_sent past) silent)
-          (speaks_first (opening_frame side limits) limits (emitted_frames past) f (pieces_sent past) (pieces_submitted limits past) h (sym (silent_is past) ∙ silent) (sym first.1))
+          (speaks_first agreed.send_size (emitted_frames past) f (pieces_sent past) (pieces_submitted (size_of agreed) past) h (sym (silent_is past) ∙ silent))
       | inr later ↦
-          let b = balanced side limits past lawful legal e.going.opened in
-          let agreed : is_agreed side limits past ≡ true = (both (is_agreed side limits past) _ later.1).0 in
-          let spoken : is_silent past ≡ false = from_not (is_silent past) (both (is_welcomed side limits past) _ agreed).1 in
-          let small : receives_grantable side past < 65536 = omega (arith, b.posted, b.taken, lawful.credits.1) in
-          let fit : All (IsSendable limits) (pieces_waiting limits past) = All-drop (IsSendable limits) (pieces_sent past) (pieces_submitted limits past) (sendable side limits past lawful legal) in
-          let is : IsSentWith limits f (first_of (pieces_waiting limits past)) =
-          subst (λ (g : List ℕ). IsSentWith limits g (first_of (pieces_waiting limits past))) later.2
-          (due_sent limits (credits_held side past) (receives_grantable side past) (pieces_waiting limits past) lawful small fit) in
-          rw (sent_is (is_silent past) (carries (data_frame_of f)) (pieces_sent past) spoken)
-          (speaks_later (opening_frame side limits) limits (emitted_frames past) f (pieces_sent past) (pieces_submitted limits past) h (sym (silent_is past) ∙ spoken) is)
+          let sends = sending_parts side limits past e.going.closed later.1 in
+          rw (sent_is (is_silent past) (carries (data_frame_of f)) (pieces_sent past) sends.spoken)
+          (speaks_later agreed.send_size (emitted_frames past) f (pieces_sent past) (pieces_submitted (size_of agreed) past) h (sym (silent_is past) ∙ sends.spoken)
+          (sent_due side limits past f agreed lawful legal s e.going.opened sends.agreed later.2))
     ]
 
-pub speaks : (side : EndId) (limits : Limits) (past : List Event) → IsLawful limits → IsLegal side limits past
-    → Speaks (opening_frame side limits) limits (emitted_frames past) (pieces_sent past) (pieces_submitted limits past)
-speaks side limits [] lawful legal = record { opens = tt; sound = tt; carried = refl; within = omega arith }
-speaks side limits (Post n ∷ past) lawful legal = speaks side limits past lawful legal.1
-speaks side limits (Submit m ∷ past) lawful legal =
-    speaks_submit (opening_frame side limits) limits (emitted_frames past) (pieces_sent past) (pieces_submitted limits past) (pieces_of (payload_size limits) m) _
-    (submitted-more limits past m) (speaks side limits past lawful legal.1)
-speaks side limits (Emit f ∷ past) lawful legal =
-    speaks_emit side limits past f lawful legal.1 (emits side limits past f legal.0) (speaks side limits past lawful legal.1)
-speaks side limits (Take f ∷ past) lawful legal = speaks side limits past lawful legal.1
-speaks side limits (Cut ∷ past) lawful legal = speaks side limits past lawful legal.1
+-- an end that follows its rules sends the pieces of what was submitted, of the size that it has settled
+pub speaks : (side : EndId) (limits : Limits) (past : List Event) (agreed : Agreed) → IsLawful limits → IsLegal side limits past → Settles side limits past agreed
+    → Speaks agreed.send_size (emitted_frames past) (pieces_sent past) (pieces_submitted (size_of agreed) past)
+speaks side limits [] agreed lawful legal s = record { sound = tt; carried = refl; within = omega arith }
+speaks side limits (Post n ∷ past) agreed lawful legal s = speaks side limits past agreed lawful legal.1 (settles_before side limits (Post n) past agreed s)
+speaks side limits (Submit m ∷ past) agreed lawful legal s =
+    speaks_submit agreed.send_size (emitted_frames past) (pieces_sent past) (pieces_submitted (size_of agreed) past) (pieces_of (size_of agreed) m) _
+    (submitted-more (size_of agreed) past m) (speaks side limits past agreed lawful legal.1 (settles_before side limits (Submit m) past agreed s))
+speaks side limits (Emit f ∷ past) agreed lawful legal s =
+    let was = settles_before side limits (Emit f) past agreed s in
+    speaks_emit side limits past f agreed lawful legal.1 was (emits side limits past f legal.0) (speaks side limits past agreed lawful legal.1 was)
+speaks side limits (Take f ∷ past) agreed lawful legal s = speaks side limits past agreed lawful legal.1 (settles_before side limits (Take f) past agreed s)
+speaks side limits (Cut ∷ past) agreed lawful legal s = speaks side limits past agreed lawful legal.1 (settles_before side limits Cut past agreed s)

@@ -6,7 +6,7 @@ use Rattle.smbd_base.specs.NegotiateMessages.{request_fault, fault_in_request, r
 use Rattle.smbd_base.proofs.worked.worked_histories.Goals as goal
 
 pub returns-clause-opening : goal.returns-clause-opening
-unfolding next_event take_fault fault_expecting data_frame_of header_bytes pieces_of
+unfolding next_event take_fault fault_expecting data_frame_of header_bytes pieces_of request_fault fault_in_request response_fault fault_in_response
 returns-clause-opening c = record {
   client_posts = refl;
   server_posts = refl;
@@ -26,7 +26,7 @@ returns-clause-opening c = record {
 }
 
 pub returns-clause-delivery : goal.returns-clause-delivery
-unfolding next_event take_fault fault_expecting data_frame_of header_bytes pieces_of
+unfolding next_event take_fault fault_expecting data_frame_of header_bytes pieces_of request_fault fault_in_request response_fault fault_in_response
 returns-clause-delivery c = record {
   sent = refl;
   taken = refl;
@@ -38,7 +38,7 @@ returns-clause-delivery c = record {
 }
 
 pub returns-clause-refusal : goal.returns-clause-refusal
-unfolding next_event take_fault fault_expecting data_frame_of header_bytes pieces_of
+unfolding next_event take_fault fault_expecting data_frame_of header_bytes pieces_of request_fault fault_in_request response_fault fault_in_response
 returns-clause-refusal c = record {
   early = refl;
   uncounted = refl;
@@ -53,7 +53,7 @@ returns-clause-refusal c = record {
 }
 
 pub returns-clause-credits : goal.returns-clause-credits
-unfolding next_event take_fault fault_expecting data_frame_of header_bytes pieces_of
+unfolding next_event take_fault fault_expecting data_frame_of header_bytes pieces_of request_fault fault_in_request response_fault fault_in_response
 returns-clause-credits c = record {
   grants = refl;
   first = refl;
@@ -70,7 +70,7 @@ unfolding pieces_of
 returns-clause-pieces c = record { pieces = refl; one = refl }
 
 pub returns-clause-gathering : goal.returns-clause-gathering
-unfolding next_event take_fault fault_expecting data_frame_of header_bytes pieces_of
+unfolding next_event take_fault fault_expecting data_frame_of header_bytes pieces_of request_fault fault_in_request response_fault fault_in_response
 returns-clause-gathering c = record {
   taken = refl;
   expected = refl;
@@ -119,4 +119,41 @@ returns-clause-negotiation c = record {
   short_refusal = refl;
   server_agreed = refl;
   client_agreed = refl;
+}
+
+pub returns-clause-declining : goal.returns-clause-declining
+unfolding next_event take_fault fault_expecting data_frame_of header_bytes pieces_of request_fault fault_in_request response_fault fault_in_response
+returns-clause-declining c = record {
+  newer = refl;
+  reposts = refl;
+  responds = refl;
+  held = refl;
+  closes = refl;
+  unsettled = refl;
+  closed = refl;
+  cut = refl;
+  refused = refl;
+  client_closes = refl;
+  no_credits = refl;
+  silent = refl;
+  other_version = refl;
+  no_response = refl;
+}
+
+pub returns-clause-settling : goal.returns-clause-settling
+unfolding next_event take_fault fault_expecting data_frame_of header_bytes pieces_of request_fault fault_in_request response_fault fault_in_response
+returns-clause-settling c = record {
+  requests = refl;
+  request_taken = refl;
+  responds = refl;
+  response_taken = refl;
+  client_holds = refl;
+  client_agreed = refl;
+  first_piece = refl;
+  server_granted = refl;
+  server_grantable = refl;
+  server_agreed = refl;
+  server_piece = refl;
+  before = refl;
+  after = refl;
 }

@@ -17,8 +17,8 @@ loop-event-preserved c =
     let start = string_bytes c.args.text.now in
     let so_far = text_of (lines_from c.args.side c.args.first front) in
     let line = line_of c.args.side c.loop-event.number e in
-    let text : string_bytes c.add_line.new.text ≡ start ++ text_of (lines_from c.args.side c.args.first (front ++ e ∷ [])) =
-    c.in_ok-add_line.ensures ∙ ap (λ (t : List ℕ). t ++ line) inv.0 ∙ append_assoc start so_far line
+    let text : string_bytes c.add_line_of.new.text ≡ start ++ text_of (lines_from c.args.side c.args.first (front ++ e ∷ [])) =
+    c.in_ok-add_line_of.ensures ∙ ap (λ (t : List ℕ). t ++ line) inv.0 ∙ append_assoc start so_far line
     ∙ ap (λ (t : List ℕ). start ++ t) (ap (λ (n : ℕ). so_far ++ line_of c.args.side n e) inv.1 ∙ sym (text-snoc c.args.side c.args.first front e)) in
     rw more (
       text,

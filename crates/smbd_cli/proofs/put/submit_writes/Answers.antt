@@ -1,5 +1,6 @@
-use Rattle.std.proofs.Common.{◌≡◌, ◌∙◌, ap, length, min, ℕ, arith, rules}
+use Rattle.std.proofs.Common.{◌≡◌, ◌∙◌, refl, ap, length, min, ℕ, arith, rules}
 use Rattle.std.specs.Slice.Iter.{chunks_rest}
+use Rattle.smbd_cli.specs.Ends.{client_of}
 use Rattle.smbd_cli.proofs.Submitting.{submitted_none, group_is, accepts_write, submitted_more, submitted_all}
 use Rattle.smbd_cli.proofs.put.submit_writes.Goals as goal
 
@@ -8,7 +9,9 @@ loop-group-init c = (
   search rules,
   tt,
   search rules,
-  submitted_none c.args.client.now c.args.before c.id_at-id.result c.args.bytes.now _ c.requires.settled c.requires.limits c.id_at-id.ensures c.requires.groups (search rules),
+  submitted_none (client_of c.args.world.now) c.args.before c.id_at-id.result c.args.bytes.now _ c.requires.settled c.requires.limits c.id_at-id.ensures c.requires.groups (search rules),
+  refl,
+  refl,
 )
 
 pub overflow_add-id : goal.overflow_add-id
@@ -38,10 +41,18 @@ loop-group-preserved c =
       search rules,
       tt,
       steps.0 ∙ c.loop-group.invariant.2,
-      submitted_more _ _ c.submit.new.end _ _ _ _ _ _ _ c.in_ok-write_request.field-0 h g c.in_ok-write_request.ensures c.in_ok-submit.ensures,
+      submitted_more _ _ (client_of c.submit.new.world) _ _ _ _ _ _ _ c.in_ok-write_request.field-0 h g c.in_ok-write_request.ensures c.in_ok-submit.ensures.submitted,
+      c.in_ok-submit.ensures.peer ∙ c.loop-group.invariant.4,
+      c.in_ok-submit.ensures.link ∙ c.loop-group.invariant.5,
     )
 
-pub returns : goal.returns
-returns c =
+pub returns-clause-client : goal.returns-clause-client
+returns-clause-client c =
     let h = c.loop-group.invariant.3 in
     submitted_all _ _ _ _ _ _ _ h c.in-None.ensures.steps.1.0
+
+pub returns-clause-server : goal.returns-clause-server
+returns-clause-server c = c.loop-group.invariant.4
+
+pub returns-clause-link : goal.returns-clause-link
+returns-clause-link c = c.loop-group.invariant.5

@@ -1,0 +1,7 @@
+pub mod Counting
+pub mod Speaking
+pub mod Accounts
+pub mod Granting
+pub mod Ordering
+pub mod Growing
+pub mod Meeting

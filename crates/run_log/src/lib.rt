@@ -1,0 +1,13 @@
+//! The lines of the log of a run of two ends, in the order of its events (this project's own).
+#![tactic(auto)]
+
+mod laws;
+mod telling;
+mod worked;
+
+pub use laws::{choices_add_lines, events_in_order, joint_histories_can_be_told, lines_of_runs};
+pub use telling::{lines_of_run, side_of};
+pub use worked::worked_lines;
+
+#[cfg(test)]
+mod tests;

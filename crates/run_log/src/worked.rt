@@ -1,0 +1,6 @@
+ghost use Rattle.run_log.specs.Worked.{WorkedLines};
+
+/// What some runs write to a log.
+pub fn worked_lines()
+    ensures { WorkedLines }
+{}

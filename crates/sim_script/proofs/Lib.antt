@@ -1,0 +1,4 @@
+pub mod LineLemmas
+pub mod ReadLines
+pub mod WrittenLines
+pub mod ScriptLemmas

@@ -1,0 +1,5 @@
+use Rattle.sim_script.proofs.LineLemmas.{line_at_end-some}
+use Rattle.sim_script.proofs.reading.line_at_end.Goals as goal
+
+pub returns-in-Some : goal.returns-in-Some
+returns-in-Some c = line_at_end-some c.args.line c.args.rest c.in-Some.field-0 c.in-Some.is

@@ -1,0 +1,35 @@
+//! Scripts of runs of two ends (this project's own): the reading of a line, and of a text of lines.
+//!
+//! Each line makes one choice. Its parts have one space between each two. Numbers are decimal, with no sign and no
+//! leading zeros. An end is `C`, the client, or `S`, the server.
+//!
+//! | Line | Choice |
+//! |---|---|
+//! | `submit` END LENGTH FIRST | the layer above END submits LENGTH bytes, 1 to 1,048,576, that count up from FIRST, 0 to 255, and go on at 0 after 255 |
+//! | `drive` END | END does what comes next at it |
+//! | `carry` END | END takes the oldest frame in flight to it |
+//! | `cut` END | the link is cut, and END with it |
+//!
+//! Lines are ended by line feeds. The last one may lack its own.
+#![tactic(auto)]
+
+mod fault;
+mod laws;
+mod lines;
+mod reading;
+mod script;
+mod script_line;
+mod word;
+mod worked;
+
+pub use fault::ScriptFault;
+pub use laws::{
+    lines_end_at_line_feeds, written_lines_are_read, written_lines_differ, written_scripts_are_read,
+};
+pub use reading::read_line;
+pub use script::read_script;
+pub use script_line::ScriptLine;
+pub use worked::worked_scripts;
+
+#[cfg(test)]
+mod tests;

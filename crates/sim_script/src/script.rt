@@ -1,0 +1,63 @@
+//! Reading a script.
+
+ghost use Rattle.std.specs.Prelude.{◌≡◌, ◌≤◌, length, None, IfOk, IfErr};
+ghost use Rattle.sim_script.specs.Scripts as spec;
+
+use crate::fault::ScriptFault;
+use crate::lines::next_line;
+use crate::reading::read_line;
+use crate::script_line::ScriptLine;
+use smbd_base::{Message, NoMemory};
+use std::alloc::Global;
+use world_core::Choice;
+
+/// The choices of the lines of a text, in order, or the number, from 1, of the first line that is none.
+#[tactic(auto, using(crate::proofs::ScriptLemmas::past_good_line))]
+pub fn read_script(alloc: Global, text: &[u8]) -> Result<Vec<Choice>, ScriptFault>
+    ensures good { IfOk result (λ choices. spec.first_bad_line text.now ≡ None) }
+    ensures choices { IfOk result (λ choices. choices.items ≡ spec.script_of text.now) }
+    ensures few { IfOk result (λ choices. length choices.items ≤ length text.now) }
+
+    // A number is given for the first bad line alone. Want of memory never hides that the first line is bad.
+    ensures fault { IfErr result (λ fault. spec.IsFaultOf fault text.now) }
+{
+    let mut choices = Vec::new(alloc);
+    let mut rest = text;
+    let mut number: u64 = 0;
+    while let Some((line, after)) = next_line(rest) {
+        number += 1;
+        let Some(said) = read_line(line) else {
+            return Err(ScriptFault::Line(number));
+        };
+        choices.reserve(1)?;
+        choices.push_reserved(choice_of(alloc, said)?);
+        rest = after;
+    }
+    Ok(choices)
+}
+
+/// The choice that a line makes.
+fn choice_of(alloc: Global, line: ScriptLine) -> Result<Choice, NoMemory>
+    ensures { IfOk result (λ choice. choice ≡ spec.choice_of line) }
+{
+    Ok(match line {
+        ScriptLine::Submit { end, length, first } => {
+            Choice::Submit(end, counted_message(alloc, length, first)?)
+        }
+        ScriptLine::Drive(end) => Choice::Drive(end),
+        ScriptLine::Carry(end) => Choice::Carry(end),
+        ScriptLine::Cut(end) => Choice::Cut(end),
+    })
+}
+
+/// A message of so many bytes that count up from the first one.
+fn counted_message(alloc: Global, length: u32, first: u8) -> Result<Message, NoMemory>
+    ensures { IfOk result (λ message. message ≡ spec.counted_bytes length first) }
+{
+    let mut bytes = Vec::with_capacity(alloc, length as usize)?;
+    for i in 0..length {
+        let byte = (u64::from(first) + u64::from(i)) % 256;
+        bytes.push_reserved(byte as u8);
+    }
+    Message::of_bytes(bytes)
+}

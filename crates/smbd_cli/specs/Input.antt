@@ -1,0 +1,30 @@
+-- The input of a command that reads it whole (this project's own).
+use Rattle.std.specs.Prelude.{ℕ, ◌<◌, ◌≤◌, List, length}
+use Rattle.std.specs.Io.KnownBytes.{Consumes, IsAtEnd}
+use Rattle.smbd_outside.specs.declared.status.Status.{Status}
+use Rattle.smbd_outside.specs.declared.status.Status.TheVariants.{Done, Usage, ReadFault, WriteFault, LogFault, TooLong, Cut, BadInput, NoMemory}
+use Rattle.smbd_outside.specs.Causes.{Rose}
+use Rattle.smbd_cli.specs.Promise.{Stream}
+
+-- these are all the bytes that the source had, and no more than may be read
+pub record IsInput (source : Stream) (bytes : List ℕ) : Type 0 where
+  pub read : Consumes source.before source.now bytes
+  pub at_end : IsAtEnd source.now
+  pub short : length bytes ≤ 16777216
+
+-- when the reading of these bytes stops short, and with which status
+abbrev pub CutsInput : Status → Stream → List ℕ → Type 0
+CutsInput ReadFault source bytes = (length bytes ≤ 16777216) × Rose source.faults_before source.faults
+CutsInput TooLong source bytes = 16777216 < length bytes
+CutsInput NoMemory source bytes = length bytes ≤ 16777216
+CutsInput Done source bytes = ⊥
+CutsInput Usage source bytes = ⊥
+CutsInput WriteFault source bytes = ⊥
+CutsInput LogFault source bytes = ⊥
+CutsInput Cut source bytes = ⊥
+CutsInput (BadInput line) source bytes = ⊥
+
+pub record StopsInput (status : Status) (source : Stream) : Type 0 where
+  pub bytes : List ℕ
+  pub read : Consumes source.before source.now bytes
+  pub stops : CutsInput status source bytes

@@ -1,0 +1,5 @@
+pub mod Choices
+pub mod Linked
+pub mod Run
+pub mod Kept
+pub mod Paired

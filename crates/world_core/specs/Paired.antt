@@ -1,0 +1,29 @@
+-- Two ends on one link.
+use Rattle.std.specs.Prelude.{◌≡◌, Bool, List, ◌++◌}
+use Rattle.smbd_base.specs.declared.end_id.EndId.{EndId}
+use Rattle.smbd_base.specs.declared.end_id.EndId.TheVariants.{Client, Server}
+use Rattle.smbd_base.specs.Limits.{IsLawful}
+use Rattle.smbd_base.specs.Joint.{AreJoint, emitted_frames, taken_frames}
+use Rattle.world_core.specs.Linked.{Linked}
+use Rattle.world_core.specs.Run.{State}
+
+-- what contracts see of them, of the link, and of whose event each one was
+abbrev pub state_of : Linked → Linked → Bool → List EndId → State
+state_of client server link_cut order = record {
+  client_limits = client.limits;
+  server_limits = server.limits;
+  client = client.past;
+  server = server.past;
+  link_cut = link_cut;
+  order = order;
+}
+
+-- they are a client and a server with joint histories, and the frames in flight to each are those that it has not taken
+pub record ArePaired (client server : Linked) : Type 0 where
+  pub client_side : client.side ≡ Client
+  pub server_side : server.side ≡ Server
+  pub client_lawful : IsLawful client.limits
+  pub server_lawful : IsLawful server.limits
+  pub joint : AreJoint client.limits server.limits client.past server.past
+  pub to_client : emitted_frames server.past ≡ taken_frames client.past ++ client.arriving
+  pub to_server : emitted_frames client.past ≡ taken_frames server.past ++ server.arriving

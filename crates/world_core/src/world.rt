@@ -1,0 +1,161 @@
+//! Two ends on one link, and the run of a script.
+
+ghost use Rattle.std.specs.Prelude.{◌≡◌, ◌∷◌, ◌||◌, Some, None, List, IfOk, OnOk, OnErr, reverse};
+ghost use Rattle.smbd_base.specs.declared.end_id.EndId.TheVariants as side;
+ghost use Rattle.smbd_base.specs.Delivery.{messages_delivered};
+ghost use Rattle.smbd_base.specs.Limits.{IsLawful};
+ghost use Rattle.world_core.specs.Choices.{answer_of, end_of};
+ghost use Rattle.world_core.specs.Linked.{event_at, own_after, peer_after, TakesNext};
+ghost use Rattle.world_core.specs.Run.{State, past_of, limits_of, event_chosen, step_of, opened_world, run_of, link_after, order_after, AreJointIn, AreDelivered};
+
+use crate::choice::{Choice, Step};
+use crate::linked_end::{LinkedEnd, act};
+use smbd_base::{EndId, EndLimits, Event, Message, NoMemory};
+use std::alloc::Global;
+use std::marker::Model;
+
+/// A client and a server that lend each other their frames. Contracts see the limits and the past of both, the newest event
+/// first, whether the link is cut, and whose event each one was, the newest one first.
+#[derive(Drop)]
+pub struct World {
+    client: LinkedEnd,
+    server: LinkedEnd,
+    link_cut: bool,
+    order: Vec<EndId>,
+}
+
+impl Model for World {
+    ghost use Rattle.std.specs.Prelude.{reverse};
+    ghost use Rattle.world_core.specs.Run.{State};
+    ghost use Rattle.world_core.specs.Paired.{state_of, ArePaired};
+
+    ghost Value = { State };
+
+    ghost view = { λ w. state_of w.client w.server w.link_cut (reverse w.order.items) };
+
+    ghost invariant = { λ w. ArePaired w.client w.server };
+}
+
+impl World {
+    /// Two ends that have posted their receives, the client first.
+    pub fn open(alloc: Global, client: EndLimits, server: EndLimits) -> Result<World, NoMemory>
+        ensures opened { IfOk result (λ w. w ≡ opened_world client server) }
+        ensures joint { IfOk result (λ w. AreJointIn w) }
+        ensures delivered { IfOk result (λ w. AreDelivered w) }
+    {
+        let mut order = Vec::with_capacity(alloc, 2)?;
+        order.push_reserved(EndId::Client);
+        order.push_reserved(EndId::Server);
+        let client = LinkedEnd::open(alloc, EndId::Client, client)?;
+        let server = LinkedEnd::open(alloc, EndId::Server, server)?;
+        let _ = client.history();
+        let _ = server.history();
+        Ok(World {
+            client,
+            server,
+            link_cut: false,
+            order,
+        })
+    }
+
+    /// Does what a choice says, which is nothing where no event may be added. Want of memory changes nothing.
+    pub fn step(&mut self, choice: &Choice) -> Result<Step, NoMemory>
+        ensures step { OnOk result (self.new ≡ step_of self.old choice.now) }
+        ensures answer { IfOk result (λ s. s ≡ answer_of (event_chosen self.old choice.now)) }
+        ensures same { OnErr result (self.new ≡ self.old) }
+        ensures joint { AreJointIn self.new }
+        ensures delivered { AreDelivered self.new }
+    {
+        match choice.end() {
+            EndId::Client => record_act(
+                &mut self.client,
+                &mut self.server,
+                &mut self.link_cut,
+                &mut self.order,
+                choice,
+            ),
+            EndId::Server => record_act(
+                &mut self.server,
+                &mut self.client,
+                &mut self.link_cut,
+                &mut self.order,
+                choice,
+            ),
+        }
+    }
+
+    /// The events of an end, in the order of time.
+    pub fn history(&self, end: EndId) -> &[Event]
+        ensures past { reverse result.now ≡ past_of end self.now }
+        ensures joint { AreJointIn self.now }
+        ensures delivered { AreDelivered self.now }
+    {
+        match end {
+            EndId::Client => self.client.history(),
+            EndId::Server => self.server.history(),
+        }
+    }
+
+    /// The messages that an end has delivered, the oldest one first.
+    pub fn delivered(&self, end: EndId) -> &[Message]
+        ensures { result.now ≡ messages_delivered end (limits_of end self.now) (past_of end self.now) }
+    {
+        match end {
+            EndId::Client => self.client.delivered(),
+            EndId::Server => self.server.delivered(),
+        }
+    }
+
+    /// Whose event each one was, in the order of time.
+    pub fn order(&self) -> &[EndId]
+        ensures { reverse result.now ≡ self.now.order }
+    {
+        self.order.as_slice()
+    }
+}
+
+/// Does what a choice says at one end, and records whose event it was.
+fn record_act(
+    own: &mut LinkedEnd,
+    peer: &mut LinkedEnd,
+    link_cut: &mut bool,
+    order: &mut Vec<EndId>,
+    choice: &Choice,
+) -> Result<Step, NoMemory>
+    requires { TakesNext own.old }
+    ensures answer { IfOk result (λ s. s ≡ answer_of (event_at own.old link_cut.old choice.now)) }
+    ensures own { OnOk result (own.new ≡ own_after own.old (event_at own.old link_cut.old choice.now)) }
+    ensures peer { OnOk result (peer.new ≡ peer_after peer.old (event_at own.old link_cut.old choice.now)) }
+    ensures link { OnOk result (link_cut.new ≡ link_after link_cut.old choice.now (event_at own.old link_cut.old choice.now)) }
+    ensures order { OnOk result (reverse order.new.items ≡ order_after (reverse order.old.items) choice.now (event_at own.old link_cut.old choice.now)) }
+    ensures own_same { OnErr result (own.new ≡ own.old) }
+    ensures peer_same { OnErr result (peer.new ≡ peer.old) }
+    ensures link_same { OnErr result (link_cut.new ≡ link_cut.old) }
+    ensures order_same { OnErr result (order.new.items ≡ order.old.items) }
+{
+    order.reserve(1)?;
+    let step = act(own, peer, *link_cut, choice)?;
+    if step == Step::Did {
+        order.push_reserved(choice.end());
+        *link_cut = *link_cut || choice.cuts_link();
+    }
+    Ok(step)
+}
+
+/// The world after these choices, one after another.
+pub fn run_script(
+    alloc: Global,
+    client: EndLimits,
+    server: EndLimits,
+    choices: &[Choice],
+) -> Result<World, NoMemory>
+    ensures run { IfOk result (λ w. w ≡ run_of client server choices.now) }
+    ensures joint { IfOk result (λ w. AreJointIn w) }
+    ensures delivered { IfOk result (λ w. AreDelivered w) }
+{
+    let mut world = World::open(alloc, client, server)?;
+    for choice in choices {
+        world.step(choice)?;
+    }
+    Ok(world)
+}
