@@ -1,6 +1,6 @@
 //! The runs of scripts.
 
-use super::{FAIR, Outside, Ran, WIDE, copied};
+use super::{FAIR, Outside, Ran, WIDE, copied, lines_that_begin};
 use smbd_base::NoMemory;
 use smbd_outside::Status;
 use std::alloc::Global;
@@ -155,6 +155,43 @@ C post 1
     let ran = copied(rt.alloc(), &["sim", "--credits", "3"], script, outside)?;
     assert_eq!(rt; ran.status, Status::Done);
     assert_eq!(rt; ran.sink.taken(), log.as_bytes());
+    Ok(())
+}
+
+/// A script of two ends: the negotiation, a message of 268,000 bytes from the client, and so many turns of both.
+fn script_of_turns(alloc: Global, turns: usize) -> Result<String, NoMemory> {
+    let mut script = String::from_str(
+        alloc,
+        "drive C\ncarry S\ndrive S\ndrive S\ncarry C\nsubmit C 268000 0\n",
+    )?;
+    for _ in 0..turns {
+        script.push_str("drive C\ncarry C\ndrive S\ncarry S\n")?;
+    }
+    Ok(script)
+}
+
+/// Two ends of three credits: the client sends its request and 200 pieces, and no empty frame; the server sends its response, and
+/// an empty frame that grants what it has posted for every two pieces. More turns do nothing.
+#[test]
+fn three_credits_carry_a_message_of_200_pieces(rt: HostRuntime) -> Result<(), Fail> {
+    for turns in [1_000, 1_001] {
+        let script = script_of_turns(rt.alloc(), turns)?;
+        let ran = copied(
+            rt.alloc(),
+            &["sim", "--credits", "3"],
+            script.as_bytes(),
+            WIDE,
+        )?;
+        assert_eq!(rt; ran.status, Status::Done);
+        let log = ran.sink.taken();
+        assert_eq!(rt; lines_that_begin(log, b"C emit "), 201);
+        assert_eq!(rt; lines_that_begin(log, b"S take "), 201);
+        assert_eq!(rt; lines_that_begin(log, b"S emit "), 101);
+        assert_eq!(rt;
+            lines_that_begin(log, b"S emit 0300020000000000000000000000000000000000"),
+            100
+        );
+    }
     Ok(())
 }
 
