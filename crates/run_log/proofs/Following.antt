@@ -108,8 +108,8 @@ pub server_more : (order : List EndId) (i : ℕ) (server : List Event) (at at' :
 server_more order i server at at' past lines more line within is there next so_far newest added =
     rw (one_more order i Server within is, next, before_last server at there) (added ∙ rw (so_far, newest) refl)
 
--- no frame reaches this number
-pub next_small : (history : List Event) (events next : ℕ) → next ≡ next_number (reverse (take events history)) → length history < 2 ^ 61 + 2 → next < 2 ^ 62
+-- the number of a frame has room for one more
+pub next_small : (history : List Event) (events next : ℕ) → next ≡ next_number (reverse (take events history)) → length history < 2 ^ 61 + 2 → next + 1 < 2 ^ 64
 next_small history events next is few =
     omega (arith, taken_few (reverse (take events history)), length-reverse (take events history), length-take events history)
 

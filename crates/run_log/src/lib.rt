@@ -6,7 +6,7 @@ mod telling;
 mod worked;
 
 pub use laws::{choices_add_lines, events_in_order, joint_histories_can_be_told, lines_of_runs};
-pub use telling::{lines_of_run, side_of};
+pub use telling::{lines_of_run, number_after, side_of};
 pub use worked::worked_lines;
 
 #[cfg(test)]

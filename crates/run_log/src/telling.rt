@@ -28,9 +28,9 @@ pub fn side_of(end: EndId) -> Side
     }
 }
 
-/// The number of the next frame that is taken, after this event.
-fn number_after(number: u64, event: &Event) -> u64
-    requires { number < 2 ^ 62 }
+/// The number of the next frame that is taken, after this event. `number` is the one before it.
+pub fn number_after(number: u64, event: &Event) -> u64
+    requires { number + 1 < 2 ^ 64 }
     ensures { result ≡ spec.number_after number event.now }
 {
     match event {

@@ -7,7 +7,8 @@ use Rattle.smbd_base.specs.declared.end_id.EndId.TheVariants.{Client, Server}
 use Rattle.smbd_base.specs.declared.event.Event.{Event}
 use Rattle.smbd_base.specs.declared.event.Event.TheVariants.{Post, Submit, Emit, Take, Cut}
 use mathlib.Core.List.{IsPrefix}
-use Rattle.smbd_cli.specs.Lines.{line_of, lines_of, lines_from, take_count, next_number, number_after}
+use Rattle.run_log.specs.RunLines.{number_after}
+use Rattle.smbd_cli.specs.Lines.{line_of, lines_of, lines_from, take_count, number_after_all}
 use Rattle.smbd_cli.specs.LogText.{text_of, Entry, entries_text, own_line, lines_at, lines_of_ends, IsLog, BeginsLog}
 use Rattle.smbd_cli.specs.declared.telling.Told.{Told}
 use Rattle.smbd_cli.specs.Progress.{all_told}
@@ -25,9 +26,9 @@ lines_more side number lines past n l (e ∷ events) =
     let line_is : lines ++ line_of side number e ∷ [] ≡ lines_of side (e ∷ past) =
     ap (λ (ls : List (List ℕ)). ls ++ line_of side number e ∷ []) l ∙ ap (λ (k : ℕ). lines_of side past ++ line_of side k e ∷ []) n in
     ap (lines_of side) split
-    ∙ lines_more side (next_number number e) (lines ++ line_of side number e ∷ []) (e ∷ past) (next_is number past e n) line_is events
-    ∙ append_assoc lines (line_of side number e ∷ []) (lines_from side (next_number number e) events) where
-      next_is : (number : ℕ) (past : List Event) (e : Event) → number ≡ take_count past + 1 → next_number number e ≡ take_count (e ∷ past) + 1
+    ∙ lines_more side (number_after number e) (lines ++ line_of side number e ∷ []) (e ∷ past) (next_is number past e n) line_is events
+    ∙ append_assoc lines (line_of side number e ∷ []) (lines_from side (number_after number e) events) where
+      next_is : (number : ℕ) (past : List Event) (e : Event) → number ≡ take_count past + 1 → number_after number e ≡ take_count (e ∷ past) + 1
       next_is number past (Post n) h = h
       next_is number past (Submit m) h = h
       next_is number past (Emit f) h = h
@@ -104,12 +105,12 @@ lines_gained side past now history more is =
     ap (lines_of side) g.is ∙ lines_more side (take_count past + 1) (lines_of side past) past refl refl g.events
     ∙ ap (λ (es : List Event). lines_of side past ++ lines_from side (take_count past + 1) es) (sym g.dropped)
 
-number_is : (past events : List Event) → number_after (take_count past + 1) events ≡ take_count (reverse events ++ past) + 1
+number_is : (past events : List Event) → number_after_all (take_count past + 1) events ≡ take_count (reverse events ++ past) + 1
 number_is past [] = refl
 number_is past (e ∷ events) =
-    ap (λ (n : ℕ). number_after n events) (next_is past e) ∙ number_is (e ∷ past) events
+    ap (λ (n : ℕ). number_after_all n events) (next_is past e) ∙ number_is (e ∷ past) events
     ∙ ap (λ (p : List Event). take_count p + 1) (sym (ap (λ (p : List Event). p ++ past) (reverse_onto events e []) ∙ append_assoc (reverse events) (e ∷ []) past)) where
-      next_is : (past : List Event) (e : Event) → next_number (take_count past + 1) e ≡ take_count (e ∷ past) + 1
+      next_is : (past : List Event) (e : Event) → number_after (take_count past + 1) e ≡ take_count (e ∷ past) + 1
       next_is past (Post n) = refl
       next_is past (Submit m) = refl
       next_is past (Emit f) = refl
@@ -121,8 +122,8 @@ pub told_all : (past now history : List Event) (told : Told) → told ≡ all_to
 told_all past now history told is more h =
     let g = gained past now history more h in
     let long : length history ≡ length now = sym (length-reverse history) ∙ ap length h in
-    let next : number_after (take_count past + 1) (drop (length past) history) ≡ take_count now + 1 =
-    ap (λ (es : List Event). number_after (take_count past + 1) es) g.dropped ∙ number_is past g.events ∙ ap (λ (p : List Event). take_count p + 1) (sym g.is) in
+    let next : number_after_all (take_count past + 1) (drop (length past) history) ≡ take_count now + 1 =
+    ap (λ (es : List Event). number_after_all (take_count past + 1) es) g.dropped ∙ number_is past g.events ∙ ap (λ (p : List Event). take_count p + 1) (sym g.is) in
     rw is (rw (long, next) refl)
 
 entries_text-append : (xs ys : List Entry) → entries_text (xs ++ ys) ≡ entries_text xs ++ entries_text ys

@@ -1,7 +1,7 @@
 -- The lines of the log of a copy (this project's own). A past is a list of events, the newest one first.
 use Rattle.std.specs.Prelude.{ℕ, ◌+◌, List, [], ◌∷◌, ◌++◌, codes}
 use Rattle.event_log.specs.Lines.{line_text, logged}
-use Rattle.run_log.specs.RunLines.{side_of}
+use Rattle.run_log.specs.RunLines.{number_after, side_of}
 use Rattle.smbd_base.specs.declared.end_id.EndId.{EndId}
 use Rattle.smbd_base.specs.declared.event.Event.{Event}
 use Rattle.smbd_base.specs.declared.event.Event.TheVariants.{Post, Submit, Emit, Take, Cut}
@@ -24,20 +24,12 @@ abbrev pub lines_of : EndId → List Event → List (List ℕ)
 lines_of side [] = []
 lines_of side (e ∷ past) = lines_of side past ++ line_of side (take_count past + 1) e ∷ []
 
--- the number of the next frame that is taken
-abbrev pub next_number : ℕ → Event → ℕ
-next_number number (Post n) = number
-next_number number (Submit m) = number
-next_number number (Emit f) = number
-next_number number (Take f) = number + 1
-next_number number Cut = number
-
 -- the lines of events in the order of time, the first frame that is taken having this number
 abbrev pub lines_from : EndId → ℕ → List Event → List (List ℕ)
 lines_from side number [] = []
-lines_from side number (e ∷ events) = line_of side number e ∷ lines_from side (next_number number e) events
+lines_from side number (e ∷ events) = line_of side number e ∷ lines_from side (number_after number e) events
 
 -- the number of the next frame that is taken after these events
-abbrev pub number_after : ℕ → List Event → ℕ
-number_after number [] = number
-number_after number (e ∷ events) = number_after (next_number number e) events
+abbrev pub number_after_all : ℕ → List Event → ℕ
+number_after_all number [] = number
+number_after_all number (e ∷ events) = number_after_all (number_after number e) events

@@ -4,7 +4,7 @@ use Rattle.smbd_base.specs.declared.end_id.EndId.{EndId}
 use Rattle.smbd_base.specs.declared.end_id.EndId.TheVariants.{Client, Server}
 use Rattle.smbd_base.specs.declared.event.Event.{Event}
 use Rattle.smbd_cli.specs.declared.telling.Told.{Told}
-use Rattle.smbd_cli.specs.Lines.{lines_from, number_after}
+use Rattle.smbd_cli.specs.Lines.{lines_from, number_after_all}
 use Rattle.smbd_cli.specs.LogText.{text_of}
 
 -- no more was told than there is, and the frames can be numbered
@@ -22,4 +22,4 @@ new_text client_told server_told client server = new_lines Client client_told cl
 
 -- what is told with them
 abbrev pub told_after : Told → List Event → Told
-told_after told history = record { events = length history; next = number_after told.next (drop told.events history) }
+told_after told history = record { events = length history; next = number_after_all told.next (drop told.events history) }

@@ -5,7 +5,7 @@ ghost use Rattle.smbd_cli.specs.Lines as spec;
 ghost use Rattle.smbd_cli.specs.LogText.{text_of};
 
 use event_log::add_line;
-use run_log::side_of;
+use run_log::{number_after, side_of};
 use smbd_base::{EndId, Event, NoMemory};
 use std::alloc::Global;
 
@@ -34,23 +34,12 @@ pub fn add_lines(
 ) -> Result<u64, NoMemory>
     requires { first + length events.now < 2 ^ 64 }
     ensures lines { OnOk result (string_bytes text.new ≡ string_bytes text.old ++ text_of (spec.lines_from side first events.now)) }
-    ensures next { IfOk result (λ next. next ≡ spec.number_after first events.now) }
+    ensures next { IfOk result (λ next. next ≡ spec.number_after_all first events.now) }
 {
     let mut number = first;
     for event in events {
         add_line_of(alloc, text, side, number, event)?;
-        number = next_number(number, event);
+        number = number_after(number, event);
     }
     Ok(number)
-}
-
-/// The number of the next frame that is taken, after this event.
-fn next_number(number: u64, event: &Event) -> u64
-    requires { number + 1 < 2 ^ 64 }
-    ensures { result ≡ spec.next_number number event.now }
-{
-    match event {
-        Event::Take(_) => number + 1,
-        _ => number,
-    }
 }

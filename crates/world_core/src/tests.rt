@@ -1,14 +1,19 @@
 //! Runs of scripts.
+//!
+//! A test ends at once where memory is wanting: with a `?` beside values that are let go its proof would be dear.
 
 use crate::{Choice, Step, World, run_script};
 use EndId::{Client, Server};
 use Step::{Did, Nothing};
-use smbd_base::{EndId, EndLimits, Event, Message, NoMemory};
+use smbd_base::{EndId, EndLimits, Event, Message};
 use std::alloc::Global;
 use std::process::Abort;
 use std::test::Fail;
 
 mod long;
+
+/// What is said where memory is wanting.
+const MEMORY: &str = "memory for a test";
 
 /// A choice without its message.
 #[derive(Clone, Copy, Debug)]
@@ -20,68 +25,79 @@ enum Turn {
     Cuts(EndId),
 }
 
-fn choice_of(alloc: Global, turn: Turn) -> Result<Choice, NoMemory> {
-    Ok(match turn {
-        Turn::Submits(end) => Choice::Submit(end, Message::copy_of(alloc, b"abc")?),
+fn choice_of(rt: &impl Abort, alloc: Global, turn: Turn) -> Choice {
+    match turn {
+        Turn::Submits(end) => {
+            Choice::Submit(end, Message::copy_of(alloc, b"abc").expect(rt, MEMORY))
+        }
         Turn::Drives(end) => Choice::Drive(end),
         Turn::Takes(end) => Choice::Carry(end),
         Turn::Cuts(end) => Choice::Cut(end),
-    })
+    }
+}
+
+fn open(rt: &impl Abort, alloc: Global, client: EndLimits, server: EndLimits) -> World {
+    World::open(alloc, client, server).expect(rt, MEMORY)
+}
+
+fn step(rt: &impl Abort, world: &mut World, choice: &Choice) -> Step {
+    world.step(choice).expect(rt, MEMORY)
 }
 
 /// Has each choice made in turn, and sees what comes of it.
-fn follow(
-    rt: &impl Abort,
-    alloc: Global,
-    world: &mut World,
-    script: &[(Turn, Step)],
-) -> Result<(), NoMemory> {
-    for (turn, step) in script {
-        let choice = choice_of(alloc, *turn)?;
-        assert_eq!(rt; world.step(&choice)?, *step, "{turn:?}");
+fn follow(rt: &impl Abort, alloc: Global, world: &mut World, script: &[(Turn, Step)]) {
+    for (turn, expected) in script {
+        let choice = choice_of(rt, alloc, *turn);
+        assert_eq!(rt; step(rt, world, &choice), *expected, "{turn:?}");
     }
-    Ok(())
 }
 
-/// The lengths of the frames that were sent.
-fn lens_sent(alloc: Global, history: &[Event]) -> Result<Vec<usize>, NoMemory> {
-    let mut lens = Vec::new(alloc);
-    for event in history {
-        if let Event::Emit(frame) = event {
-            lens.push(frame.len())?;
-        }
+fn add_turns(rt: &impl Abort, alloc: Global, turns: &[Turn], choices: &mut Vec<Choice>) {
+    for turn in turns {
+        choices.push(choice_of(rt, alloc, *turn)).expect(rt, MEMORY);
     }
-    Ok(lens)
 }
 
-/// The first letter of each event's kind.
-fn letters_of(alloc: Global, history: &[Event]) -> Result<Vec<u8>, NoMemory> {
-    let mut letters = Vec::new(alloc);
-    for event in history {
-        letters.push(match event {
-            Event::Post(_) => b'P',
-            Event::Submit(_) => b'S',
-            Event::Emit(_) => b'E',
-            Event::Take(_) => b'T',
-            Event::Cut => b'C',
-        })?;
+/// The first letter of an event's kind.
+fn letter_of(event: &Event) -> u8 {
+    match event {
+        Event::Post(_) => b'P',
+        Event::Submit(_) => b'S',
+        Event::Emit(_) => b'E',
+        Event::Take(_) => b'T',
+        Event::Cut => b'C',
     }
-    Ok(letters)
 }
 
 /// Whether the events are of these kinds.
-fn has_events(alloc: Global, world: &World, end: EndId, expected: &[u8]) -> Result<bool, NoMemory> {
-    Ok(letters_of(alloc, world.history(end))?.as_slice() == expected)
+fn are_events(history: &[Event], expected: &[u8]) -> bool {
+    history.len() == expected.len()
+        && history
+            .iter()
+            .zip(expected)
+            .all(|(event, letter)| letter_of(event) == *letter)
+}
+
+/// The length of a frame that was sent.
+fn len_sent(event: &Event) -> Option<usize> {
+    match event {
+        Event::Emit(frame) => Some(frame.len()),
+        _ => None,
+    }
+}
+
+fn count_sent(history: &[Event]) -> usize {
+    history.iter().filter_map(len_sent).count()
 }
 
 /// Whether the frames that were sent have these lengths.
-fn has_sent(
-    alloc: Global,
-    world: &World,
-    end: EndId,
-    expected: &[usize],
-) -> Result<bool, NoMemory> {
-    Ok(lens_sent(alloc, world.history(end))?.as_slice() == expected)
+fn are_sent(history: &[Event], expected: &[usize]) -> bool {
+    count_sent(history) == expected.len()
+        && history
+            .iter()
+            .filter_map(len_sent)
+            .zip(expected)
+            .all(|(len, expected)| len == *expected)
 }
 
 /// Whether one message of so many bytes was delivered.
@@ -119,32 +135,36 @@ const SENDING: [(Turn, Step); 14] = [
     (Turn::Takes(Server), Did),
 ];
 
-/// Sends a message of 3,000 bytes.
-fn send(rt: &impl Abort, alloc: Global, world: &mut World) -> Result<(), NoMemory> {
-    follow(rt, alloc, world, &OPENING)?;
-    let choice = Choice::Submit(Client, Message::of_bytes(vec![in alloc; 7; 3_000]?)?);
-    assert!(rt; world.step(&choice)? == Did);
-    follow(rt, alloc, world, &SENDING)
+/// A choice to submit a message of bytes that count up.
+fn counted_submit(rt: &impl Abort, alloc: Global, end: EndId, length: u64, first: u64) -> Choice {
+    let mut bytes = Vec::new(alloc);
+    for i in 0..length {
+        bytes
+            .push((first.wrapping_add(i) % 256) as u8)
+            .expect(rt, MEMORY);
+    }
+    Choice::Submit(end, Message::of_bytes(bytes).expect(rt, MEMORY))
 }
 
-/// What comes of that.
-fn has_arrived(alloc: Global, world: &World) -> Result<bool, NoMemory> {
-    Ok(
-        has_events(alloc, world, Client, b"PETPSEETPE")?
-            && has_events(alloc, world, Server, b"PTPETPTPET")?
-            && has_sent(alloc, world, Client, &[20, 1_364, 1_364, 344])?
-            && has_sent(alloc, world, Server, &[32, 20])?
-            && has_delivered(world, Server, 3_000)
-            && world.delivered(Client).is_empty(),
-    )
+/// What comes of a message of 3,000 bytes.
+fn has_arrived(world: &World) -> bool {
+    are_events(world.history(Client), b"PETPSEETPE")
+        && are_events(world.history(Server), b"PTPETPTPET")
+        && are_sent(world.history(Client), &[20, 1_364, 1_364, 344])
+        && are_sent(world.history(Server), &[32, 20])
+        && has_delivered(world, Server, 3_000)
+        && world.delivered(Client).is_empty()
 }
 
 #[test]
 fn a_message_goes_in_three_frames(rt: HostRuntime) -> Result<(), Fail> {
     let limits = EndLimits::check(3, 1_364, 8_192, 1_048_576, 64)?;
-    let mut world = World::open(rt.alloc(), limits, limits)?;
-    send(&rt, rt.alloc(), &mut world)?;
-    assert!(&rt; has_arrived(rt.alloc(), &world)?);
+    let mut world = open(&rt, rt.alloc(), limits, limits);
+    follow(&rt, rt.alloc(), &mut world, &OPENING);
+    let choice = counted_submit(&rt, rt.alloc(), Client, 3_000, 7);
+    assert!(&rt; step(&rt, &mut world, &choice) == Did);
+    follow(&rt, rt.alloc(), &mut world, &SENDING);
+    assert!(&rt; has_arrived(&world));
     Ok(())
 }
 
@@ -155,14 +175,13 @@ const STANDSTILL: [(Turn, Step); 3] = [
 ];
 
 #[test]
-fn nothing_happens(rt: HostRuntime) -> Result<(), Fail> {
+fn nothing_happens(rt: HostRuntime) {
     let limits = EndLimits::usual();
-    let mut world = World::open(rt.alloc(), limits, limits)?;
-    follow(&rt, rt.alloc(), &mut world, &STANDSTILL)?;
-    let empty = Choice::Submit(Client, Message::copy_of(rt.alloc(), b"")?);
-    assert!(&rt; world.step(&empty)? == Nothing);
+    let mut world = open(&rt, rt.alloc(), limits, limits);
+    follow(&rt, rt.alloc(), &mut world, &STANDSTILL);
+    let empty = counted_submit(&rt, rt.alloc(), Client, 0, 0);
+    assert!(&rt; step(&rt, &mut world, &empty) == Nothing);
     assert!(&rt; world.order() == [Client, Server].as_slice());
-    Ok(())
 }
 
 const CUT: [Turn; 9] = [
@@ -177,28 +196,18 @@ const CUT: [Turn; 9] = [
     Turn::Takes(Server),
 ];
 
-fn choices_of(alloc: Global, turns: &[Turn]) -> Result<Vec<Choice>, NoMemory> {
-    let mut choices = Vec::new(alloc);
-    for turn in turns {
-        choices.push(choice_of(alloc, *turn)?)?;
-    }
-    Ok(choices)
-}
-
 /// What comes of a cut: each end is cut once.
-fn is_cut(alloc: Global, world: &World) -> Result<bool, NoMemory> {
-    Ok(
-        has_events(alloc, world, Client, b"PEC")?
-            && has_events(alloc, world, Server, b"PSC")?
-            && world.order() == [Client, Server, Client, Client, Server, Server].as_slice(),
-    )
+fn is_cut(world: &World) -> bool {
+    are_events(world.history(Client), b"PEC")
+        && are_events(world.history(Server), b"PSC")
+        && world.order() == [Client, Server, Client, Client, Server, Server].as_slice()
 }
 
 #[test]
-fn a_cut_is_found_out(rt: HostRuntime) -> Result<(), Fail> {
+fn a_cut_is_found_out(rt: HostRuntime) {
     let limits = EndLimits::usual();
-    let choices = choices_of(rt.alloc(), &CUT)?;
-    let world = run_script(rt.alloc(), limits, limits, &choices)?;
-    assert!(&rt; is_cut(rt.alloc(), &world)?);
-    Ok(())
+    let mut choices = Vec::new(rt.alloc());
+    add_turns(&rt, rt.alloc(), &CUT, &mut choices);
+    let world = run_script(rt.alloc(), limits, limits, &choices).expect(&rt, MEMORY);
+    assert!(&rt; is_cut(&world));
 }

@@ -1,9 +1,10 @@
 use Rattle.std.proofs.Common.{◌≡◌, ℕ, ◌+◌, ◌++◌, ◌∷◌, [], List, take, string_bytes, sym, ap, ◌∙◌, append_assoc, arith}
 use Rattle.std.proofs.lemmas.List.{take_more}
 use Rattle.smbd_base.specs.declared.event.Event.{Event}
-use Rattle.smbd_cli.specs.Lines.{line_of, lines_from, next_number}
+use Rattle.run_log.specs.RunLines.{number_after}
+use Rattle.smbd_cli.specs.Lines.{line_of, lines_from}
 use Rattle.smbd_cli.specs.LogText.{text_of}
-use Rattle.smbd_cli.proofs.LineLemmas.{number_after-snoc, text-snoc, next_number-le}
+use Rattle.smbd_cli.proofs.LineLemmas.{number_after_all-snoc, text-snoc, number_after-le}
 use Rattle.smbd_cli.proofs.lines.add_lines.Goals as goal
 
 pub loop-event-preserved : goal.loop-event-preserved
@@ -22,6 +23,6 @@ loop-event-preserved c =
     ∙ ap (λ (t : List ℕ). start ++ t) (ap (λ (n : ℕ). so_far ++ line_of c.args.side n e) inv.1 ∙ sym (text-snoc c.args.side c.args.first front e)) in
     rw more (
       text,
-      c.next_number-number.ensures ∙ ap (λ (n : ℕ). next_number n e) inv.1 ∙ sym (number_after-snoc c.args.first front e),
-      omega (arith, c.next_number-number.ensures, next_number-le c.loop-event.number (c.loop-event.event-index + c.args.first) e inv.2),
+      c.number_after-number.ensures ∙ ap (λ (n : ℕ). number_after n e) inv.1 ∙ sym (number_after_all-snoc c.args.first front e),
+      omega (arith, c.number_after-number.ensures, number_after-le c.loop-event.number (c.loop-event.event-index + c.args.first) e inv.2),
     )
