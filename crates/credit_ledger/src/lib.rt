@@ -7,8 +7,6 @@
 
 mod laws;
 mod ledger;
-#[cfg(test)]
-mod tests;
 
 pub use laws::{
     counts_of_legal_histories, due_frames_may_be_spent, due_posts_fit,

@@ -8,8 +8,6 @@ mod answers;
 mod page_pass;
 mod pages;
 mod slot;
-#[cfg(test)]
-mod tests;
 
 pub use answers::{Access, Load};
 pub use page_pass::{PagePass, Passes};

@@ -5,8 +5,6 @@ mod answers;
 mod hold;
 mod record;
 mod table;
-#[cfg(test)]
-mod tests;
 
 pub use answers::{Claimed, Issue, Withdraw};
 pub use hold::Hold;

@@ -1,8 +1,8 @@
 ghost use Rattle.std.specs.Prelude.{◌≡◌, ◌<◌, length};
 
-use crate::answers::{Access, Load};
-use crate::page_pass::PagePass;
-use crate::pages::Pages;
+use page_slots::{Access, Load};
+use page_slots::PagePass;
+use page_slots::Pages;
 use smbd_base::{Right, Token};
 use std::process::Abort;
 use std::test::Fail;

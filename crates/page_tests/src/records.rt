@@ -1,9 +1,9 @@
 ghost use Rattle.std.specs.Prelude.{◌≡◌, ◌<◌, length};
 ghost use Rattle.token_table.specs.Records.{IsInPage};
 
-use crate::answers::{Claimed, Issue, Withdraw};
-use crate::record::Record;
-use crate::table::TokenTable;
+use token_table::{Claimed, Issue, Withdraw};
+use token_table::Record;
+use token_table::TokenTable;
 use smbd_base::{Right, Token};
 use std::process::Abort;
 use std::test::Fail;

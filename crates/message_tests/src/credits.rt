@@ -2,7 +2,7 @@
 
 ghost use Rattle.std.specs.Prelude.{◌≡◌, ◌≤◌};
 
-use crate::Ledger;
+use credit_ledger::Ledger;
 use std::process::Abort;
 use std::test::Fail;
 

@@ -1,0 +1,7 @@
+//! Tests of `smbd_base` and `smbd_outside`, by their public calls alone.
+#![tactic(auto)]
+
+#[cfg(test)]
+mod outside;
+#[cfg(test)]
+mod values;

@@ -1,0 +1,69 @@
+use smbd_base::{EndId, EndLimits, Frame, LimitFault, Message};
+use std::test::Fail;
+
+#[test]
+fn limits_lie_in_their_ranges(rt: HostRuntime) {
+    use LimitFault::*;
+    let cases: [((u16, u32, u32, u32, u16), Option<LimitFault>); 16] = [
+        ((3, 128, 128, 131_072, 16), None),
+        ((255, 8_192, 8_192, 1_048_576, 255), None),
+        ((255, 1_364, 8_192, 1_048_576, 64), None),
+        ((2, 1_364, 8_192, 1_048_576, 64), Some(Credits)),
+        ((256, 1_364, 8_192, 1_048_576, 64), Some(Credits)),
+        ((255, 127, 8_192, 1_048_576, 64), Some(SendSize)),
+        ((255, 8_193, 8_192, 1_048_576, 64), Some(SendSize)),
+        ((255, 1_364, 127, 1_048_576, 64), Some(ReceiveSize)),
+        ((255, 1_364, 8_193, 1_048_576, 64), Some(ReceiveSize)),
+        ((255, 1_364, 8_192, 131_071, 64), Some(FragmentedSize)),
+        ((255, 1_364, 8_192, 1_048_577, 64), Some(FragmentedSize)),
+        ((255, 1_364, 8_192, 1_048_576, 15), Some(Pages)),
+        ((255, 1_364, 8_192, 1_048_576, 256), Some(Pages)),
+        ((2, 127, 8_192, 1_048_576, 64), Some(Credits)),
+        ((255, 8_193, 8_193, 1_048_576, 64), Some(SendSize)),
+        ((255, 1_364, 8_192, 131_071, 15), Some(FragmentedSize)),
+    ];
+    for (numbers, fault) in cases {
+        let (credits, send_size, receive_size, fragmented_size, pages) = numbers;
+        let checked = EndLimits::check(credits, send_size, receive_size, fragmented_size, pages);
+        assert_eq!(rt; checked.err(), fault, "{numbers:?}");
+    }
+    let usual = EndLimits::check(255, 1_364, 8_192, 1_048_576, 64);
+    assert_eq!(rt; usual, Ok(EndLimits::usual()));
+}
+
+#[test]
+fn a_frame_grants_the_credits_of_its_kind(rt: HostRuntime) -> Result<(), Fail> {
+    let bytes: &[u8] = b"\x00\x01\x02\x03\x04\x05\x06\x07\x08\x09\x0a\x0b\x0c";
+    let cases: [(EndId, bool, usize, u16); 8] = [
+        (EndId::Client, true, 13, 0),
+        (EndId::Server, true, 13, 0x0b0a),
+        (EndId::Server, true, 12, 0x0b0a),
+        (EndId::Server, true, 11, 0),
+        (EndId::Client, false, 13, 0x0302),
+        (EndId::Server, false, 4, 0x0302),
+        (EndId::Client, false, 3, 0),
+        (EndId::Server, false, 0, 0),
+    ];
+    for (from, first, length, granted) in cases {
+        assert!(rt; length <= bytes.len());
+        let frame = Frame::copy_of(rt.alloc(), &bytes[..length])?;
+        assert_eq!(rt;
+            frame.granted(from, first),
+            granted,
+            "{from:?}, {length} bytes"
+        );
+        assert_eq!(rt; frame.bytes(), &bytes[..length]);
+    }
+    Ok(())
+}
+
+#[test]
+fn a_message_keeps_its_bytes(rt: HostRuntime) -> Result<(), Fail> {
+    for bytes in [b"abc".as_slice(), b"".as_slice()] {
+        let message = Message::copy_of(rt.alloc(), bytes)?;
+        assert_eq!(rt; message.clone()?.bytes(), bytes);
+        assert_eq!(rt; message.len(), bytes.len());
+        assert_eq!(rt; message.is_empty(), bytes.is_empty());
+    }
+    Ok(())
+}

@@ -1,0 +1,428 @@
+ghost use Rattle.std.specs.Prelude.{◌≤◌};
+
+use smbd_cli::{Word, run};
+use smbd_base::NoMemory;
+use smbd_outside::{MemorySink, MemorySource, Status};
+use std::alloc::Global;
+use std::test::Fail;
+
+mod sim;
+
+const PUT: [&str; 3] = ["put", "--channel", "none"];
+
+/// What the log has once both ends are open.
+const OPENING: &[u8] = b"C post 255\nS post 255\n";
+
+/// The log of a put of `abc`.
+const LOG_OF_ABC: &[u8] = b"C post 255
+S post 255
+C emit 000100010000ff00540500000020000000001000
+C take 1 32
+C post 1
+C submit 27
+C emit ff00ff000000000000000000180000001b00000000000000010000000100000000000000000000000300000000000000616263
+C take 2 36
+C post 1
+C submit 24
+C emit ff0001000000000000000000180000001800000000000000030000000200000003000000000000000000000000000000
+C take 3 36
+C post 1
+S take 1 20
+S post 1
+S emit 0001000100010000ff00ff000000000000001000540500000020000000001000
+S take 2 51
+S post 1
+S submit 12
+S emit ff0001000000000000000000180000000c00000000000000018000000100000003000000
+S take 3 48
+S post 1
+S submit 12
+S emit ff0001000000000000000000180000000c00000000000000038000000200000000000000
+";
+
+/// The log of a put of nothing.
+const LOG_OF_NOTHING: &[u8] = b"C post 255
+S post 255
+C emit 000100010000ff00540500000020000000001000
+C take 1 32
+C post 1
+C submit 24
+C emit ff00ff000000000000000000180000001800000000000000030000000100000000000000000000000000000000000000
+C take 2 36
+C post 1
+S take 1 20
+S post 1
+S emit 0001000100010000ff00ff000000000000001000540500000020000000001000
+S take 2 48
+S post 1
+S submit 12
+S emit ff0001000000000000000000180000000c00000000000000038000000100000000000000
+";
+
+/// How the outside of a copy behaves: the most bytes that the source gives and the sink takes at once, the calls at
+/// which each fails (from 1), and the room of the sink and of the log.
+#[derive(Clone, Copy)]
+struct Outside<'a> {
+    most: u32,
+    source_fails: &'a [u32],
+    sink_fails: &'a [u32],
+    log_fails: &'a [u32],
+    sink_room: u32,
+    log_room: u32,
+}
+
+const FAIR: Outside<'static> = Outside {
+    most: 4_096,
+    source_fails: &[],
+    sink_fails: &[],
+    log_fails: &[],
+    sink_room: 4_096,
+    log_room: 16_384,
+};
+
+/// A copy that was run: how it ended, and what the sink and the log got.
+#[derive(Drop)]
+struct Ran {
+    status: Status,
+    sink: MemorySink,
+    log: MemorySink,
+}
+
+fn words_of(alloc: Global, texts: &[&str]) -> Result<Vec<Word>, NoMemory> {
+    let mut words = Vec::new(alloc);
+    for text in texts {
+        words.push(Word::copy_of(alloc, text)?)?;
+    }
+    Ok(words)
+}
+
+fn copied(
+    alloc: Global,
+    texts: &[&str],
+    bytes: &[u8],
+    outside: Outside<'_>,
+) -> Result<Ran, NoMemory>
+    requires { 1 ≤ outside.most }
+{
+    let words = words_of(alloc, texts)?;
+    let mut source = MemorySource::open(alloc, bytes, outside.most, outside.source_fails)?;
+    let mut sink = MemorySink::open(alloc, outside.sink_room, outside.most, outside.sink_fails)?;
+    let mut log = MemorySink::open(alloc, outside.log_room, outside.most, outside.log_fails)?;
+    let status = run(alloc, &words, &mut source, &mut sink, &mut log);
+    Ok(Ran { status, sink, log })
+}
+
+#[test]
+fn a_copy_gives_its_bytes_and_tells_its_faults(rt: HostRuntime) -> Result<(), Fail> {
+    let by_one = Outside { most: 1, ..FAIR };
+    let cases: [(&[u8], Outside<'_>, Status, &[u8], &[u8]); 9] = [
+        (b"", FAIR, Status::Done, b"", LOG_OF_NOTHING),
+        (b"abc", FAIR, Status::Done, b"abc", LOG_OF_ABC),
+        (b"abc", by_one, Status::Done, b"abc", LOG_OF_ABC),
+        (
+            b"abc",
+            Outside {
+                source_fails: &[1],
+                ..FAIR
+            },
+            Status::ReadFault,
+            b"",
+            OPENING,
+        ),
+        (
+            b"abc",
+            Outside {
+                source_fails: &[3],
+                ..by_one
+            },
+            Status::ReadFault,
+            b"",
+            OPENING,
+        ),
+        (
+            b"abc",
+            Outside {
+                sink_fails: &[1],
+                ..FAIR
+            },
+            Status::WriteFault,
+            b"",
+            LOG_OF_ABC,
+        ),
+        (
+            b"abc",
+            Outside {
+                sink_room: 2,
+                ..FAIR
+            },
+            Status::WriteFault,
+            b"ab",
+            LOG_OF_ABC,
+        ),
+        (
+            b"abc",
+            Outside {
+                log_fails: &[1],
+                ..FAIR
+            },
+            Status::LogFault,
+            b"",
+            b"",
+        ),
+        (
+            b"abc",
+            Outside {
+                log_room: 30,
+                ..FAIR
+            },
+            Status::LogFault,
+            b"",
+            b"C post 255\nS post 255\nC emit 0",
+        ),
+    ];
+    for (bytes, outside, status, sink, log) in cases {
+        assert!(rt; 1 <= outside.most);
+        let ran = copied(rt.alloc(), &PUT, bytes, outside)?;
+        assert_eq!(rt; ran.status, status);
+        assert_eq!(rt; ran.sink.taken(), sink);
+        assert_eq!(rt; ran.log.taken(), log);
+    }
+    Ok(())
+}
+
+/// So many bytes, of which no two neighbours are equal.
+fn some_bytes(alloc: Global, length: u32) -> Result<Vec<u8>, NoMemory> {
+    let mut bytes = Vec::with_capacity(alloc, length as usize)?;
+    for number in 0..length {
+        bytes.push((number % 251) as u8)?;
+    }
+    Ok(bytes)
+}
+
+/// An outside with room for a long copy, which gives and takes up to a group at once.
+const WIDE: Outside<'static> = Outside {
+    most: 65_536,
+    source_fails: &[],
+    sink_fails: &[],
+    log_fails: &[],
+    sink_room: 16_777_216,
+    log_room: 41_943_040,
+};
+
+/// How many lines of a log begin so.
+fn lines_that_begin(log: &[u8], start: &[u8]) -> usize {
+    log.split(|byte| *byte == b'\n')
+        .filter(|line| line.starts_with(start))
+        .count()
+}
+
+/// The most requests that were unanswered at once: the client submits one, and takes a reply in a frame of 36 bytes.
+fn most_unanswered(log: &[u8]) -> usize {
+    let mut unanswered = 0usize;
+    let mut most = 0;
+    for line in log.split(|byte| *byte == b'\n') {
+        if line.starts_with(b"C submit ") {
+            unanswered = unanswered.saturating_add(1);
+        } else if line.starts_with(b"C take ") && line.ends_with(b" 36") {
+            unanswered = unanswered.saturating_sub(1);
+        }
+        most = most.max(unanswered);
+    }
+    most
+}
+
+#[test]
+fn a_copy_carries_messages_of_many_pieces(rt: HostRuntime) -> Result<(), Fail> {
+    // the bytes, the requests that it takes, and how many of them are unanswered at once
+    let cases: [(u32, usize, usize); 8] = [
+        (1_316, 2, 1),
+        (1_317, 2, 1),
+        (65_536, 2, 1),
+        (65_537, 3, 2),
+        (100_000, 3, 2),
+        (262_144, 5, 4),
+        (262_145, 6, 4),
+        (600_000, 11, 4),
+    ];
+    for (length, requests, unanswered) in cases {
+        let bytes = some_bytes(rt.alloc(), length)?;
+        let ran = copied(rt.alloc(), &PUT, &bytes, WIDE)?;
+        assert_eq!(rt; ran.status, Status::Done, "{length} bytes");
+        assert!(rt; ran.sink.taken() == bytes.as_slice(), "{length} bytes");
+        assert_eq!(rt;
+            lines_that_begin(ran.log.taken(), b"C submit "),
+            requests,
+            "{length} bytes"
+        );
+        assert_eq!(rt;
+            lines_that_begin(ran.log.taken(), b"S submit 12"),
+            requests,
+            "{length} bytes"
+        );
+        assert_eq!(rt;
+            most_unanswered(ran.log.taken()),
+            unanswered,
+            "{length} bytes"
+        );
+    }
+    Ok(())
+}
+
+#[test]
+fn a_copy_of_100000_bytes_has_two_writes(rt: HostRuntime) -> Result<(), Fail> {
+    let bytes = some_bytes(rt.alloc(), 100_000)?;
+    let ran = copied(rt.alloc(), &PUT, &bytes, WIDE)?;
+    assert_eq!(rt; ran.status, Status::Done);
+    for line in [
+        b"C submit 65560".as_slice(),
+        b"C submit 34488",
+        b"C submit 24",
+    ] {
+        assert_eq!(rt; lines_that_begin(ran.log.taken(), line), 1);
+    }
+    Ok(())
+}
+
+#[test]
+fn a_copy_carries_16777216_bytes_and_not_one_more(rt: HostRuntime) -> Result<(), Fail> {
+    let mut bytes = some_bytes(rt.alloc(), 16_777_216)?;
+    let longest = copied(rt.alloc(), &PUT, &bytes, WIDE)?;
+    assert_eq!(rt; longest.status, Status::Done);
+    assert!(rt; longest.sink.taken() == bytes.as_slice());
+    assert_eq!(rt; lines_that_begin(longest.log.taken(), b"C submit "), 257);
+
+    bytes.push(7)?;
+    let longer = copied(rt.alloc(), &PUT, &bytes, WIDE)?;
+    assert_eq!(rt; longer.status, Status::TooLong);
+    // each group before the byte too many was stored, and nothing more was submitted
+    assert_eq!(rt; longer.sink.taken().len(), 16_777_216);
+    assert!(rt; bytes.as_slice().starts_with(longer.sink.taken()));
+    assert_eq!(rt; lines_that_begin(longer.log.taken(), b"C submit "), 256);
+    assert_eq!(rt; lines_that_begin(longer.log.taken(), b"S submit "), 256);
+    Ok(())
+}
+
+#[test]
+fn a_long_copy_tells_its_faults(rt: HostRuntime) -> Result<(), Fail> {
+    // how it ends, how many bytes the sink has, and how many requests the log tells
+    let cases: [(Outside<'_>, Status, usize, usize); 7] = [
+        (WIDE, Status::Done, 300_000, 6),
+        (
+            Outside {
+                source_fails: &[2],
+                ..WIDE
+            },
+            Status::ReadFault,
+            0,
+            0,
+        ),
+        (
+            Outside {
+                source_fails: &[5],
+                ..WIDE
+            },
+            Status::ReadFault,
+            262_144,
+            4,
+        ),
+        (
+            Outside {
+                sink_fails: &[2],
+                ..WIDE
+            },
+            Status::WriteFault,
+            65_536,
+            4,
+        ),
+        (
+            Outside {
+                sink_room: 280_000,
+                ..WIDE
+            },
+            Status::WriteFault,
+            280_000,
+            6,
+        ),
+        (
+            Outside {
+                log_fails: &[1],
+                ..WIDE
+            },
+            Status::LogFault,
+            0,
+            0,
+        ),
+        (
+            Outside {
+                log_room: 580_000,
+                ..WIDE
+            },
+            Status::LogFault,
+            262_144,
+            5,
+        ),
+    ];
+    let bytes = some_bytes(rt.alloc(), 300_000)?;
+    for (outside, status, stored, requests) in cases {
+        assert!(rt; 1 <= outside.most);
+        let ran = copied(rt.alloc(), &PUT, &bytes, outside)?;
+        assert_eq!(rt; ran.status, status);
+        assert_eq!(rt; ran.sink.taken().len(), stored);
+        assert!(rt; bytes.as_slice().starts_with(ran.sink.taken()));
+        assert_eq!(rt; lines_that_begin(ran.log.taken(), b"C submit "), requests);
+    }
+    Ok(())
+}
+
+#[test]
+fn other_words_are_refused_before_anything_is_read(rt: HostRuntime) -> Result<(), Fail> {
+    let cases: [&[&str]; 20] = [
+        &[],
+        &["show"],
+        &["sim", "--credits"],
+        &["sim", "--credits", "2"],
+        &["sim", "--credits", "256"],
+        &["sim", "--credits", "03"],
+        &["sim", "--credits", "+3"],
+        &["sim", "--credits", "3 "],
+        &["sim", "--credits", ""],
+        &["sim", "--credits=3"],
+        &["sim", "--credits", "3", "3"],
+        &["sim", "3", "--credits"],
+        &["sim", "--send-size", "128"],
+        &["sim", "sim"],
+        &["put"],
+        &["put", "--channel"],
+        &["put", "--channel", "some"],
+        &["get", "--channel", "none"],
+        &["put", "--chanel", "none"],
+        &["put", "--channel", "none", "none"],
+    ];
+    for texts in cases {
+        let words = words_of(rt.alloc(), texts)?;
+        let mut source = MemorySource::open(rt.alloc(), b"abc", 1, &[1])?;
+        let mut sink = MemorySink::open(rt.alloc(), 9, 1, &[])?;
+        let mut log = MemorySink::open(rt.alloc(), 9, 1, &[])?;
+        let status = run(rt.alloc(), &words, &mut source, &mut sink, &mut log);
+        assert_eq!(rt; status, Status::Usage);
+        assert_eq!(rt; sink.taken(), b"".as_slice());
+        assert_eq!(rt; log.taken(), b"".as_slice());
+    }
+    Ok(())
+}
+
+/// Each allocation of the copy, failing in turn, ends it with `NoMemory`, a front of the log and nothing in the sink
+/// (`rt try --test --fail-alloc N`); those before the copy end the test.
+#[test]
+fn want_of_memory_ends_a_copy_with_fronts(rt: HostRuntime) -> Result<(), Fail> {
+    let ran = copied(rt.alloc(), &PUT, b"abc", FAIR)?;
+    assert!(rt; LOG_OF_ABC.starts_with(ran.log.taken()));
+    if ran.status == Status::Done {
+        assert_eq!(rt; ran.sink.taken(), b"abc".as_slice());
+        assert_eq!(rt; ran.log.taken(), LOG_OF_ABC);
+    } else {
+        assert_eq!(rt; ran.status, Status::NoMemory);
+        assert_eq!(rt; ran.sink.taken(), b"".as_slice());
+    }
+    Ok(())
+}

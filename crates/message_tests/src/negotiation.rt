@@ -1,0 +1,430 @@
+ghost use Rattle.std.specs.Prelude.{◌+◌, ◌≤◌, length};
+
+use negotiate_msg::NegotiateFault::*;
+use negotiate_msg::{
+    Agreed, NegotiateFault, NegotiateRequest, NegotiateResponse, answer, read_request,
+    read_response, refusal, settle, write_request, write_response,
+};
+use smbd_base::EndLimits;
+
+/// The request of the usual limits, and what it says.
+const REQUEST_BYTES: &[u8; 20] =
+    b"\x00\x01\x00\x01\x00\x00\xff\x00\x54\x05\x00\x00\x00\x20\x00\x00\x00\x00\x10\x00";
+
+const REQUEST: NegotiateRequest = NegotiateRequest {
+    min_version: 0x0100,
+    max_version: 0x0100,
+    credits_requested: 255,
+    preferred_send_size: 1_364,
+    max_receive_size: 8_192,
+    max_fragmented_size: 1_048_576,
+};
+
+/// The response to it of a server of the usual limits, and what it says.
+const RESPONSE_BYTES: &[u8; 32] =
+    b"\x00\x01\x00\x01\x00\x01\x00\x00\xff\x00\xff\x00\x00\x00\x00\x00\x00\x00\x10\x00\x54\x05\x00\x00\x00\x20\x00\x00\x00\x00\x10\x00";
+
+const RESPONSE: NegotiateResponse = NegotiateResponse {
+    min_version: 0x0100,
+    max_version: 0x0100,
+    negotiated_version: 0x0100,
+    credits_requested: 255,
+    credits_granted: 255,
+    status: 0,
+    max_read_write_size: 1_048_576,
+    preferred_send_size: 1_364,
+    max_receive_size: 8_192,
+    max_fragmented_size: 1_048_576,
+};
+
+/// The refusing response.
+const REFUSAL_BYTES: &[u8; 32] =
+    b"\x00\x01\x00\x01\x00\x00\x00\x00\x00\x00\x00\x00\xbb\x00\x00\xc0\x00\x00\x00\x00\x00\x00\x00\x00\x00\x00\x00\x00\x00\x00\x00\x00";
+
+/// The request with other bytes at a place.
+fn request_with(place: usize, part: &[u8]) -> [u8; 20]
+    requires { place + length part.now ≤ 20 }
+{
+    let mut bytes = *REQUEST_BYTES;
+    bytes[place..place + part.len()].copy_from_slice(part);
+    bytes
+}
+
+/// The response with other bytes at a place.
+fn response_with(place: usize, part: &[u8]) -> [u8; 32]
+    requires { place + length part.now ≤ 32 }
+{
+    let mut bytes = *RESPONSE_BYTES;
+    bytes[place..place + part.len()].copy_from_slice(part);
+    bytes
+}
+
+#[test]
+fn a_request_has_its_first_fault(rt: HostRuntime) {
+    // each field at its bound and beside it
+    let cases: [(usize, &[u8], Option<NegotiateFault>); 26] = [
+        (0, b"\x00\x00", None),
+        (0, b"\xff\x00", None),
+        (0, b"\x01\x01", Some(Version)),
+        (0, b"\xff\xff", Some(Version)),
+        (2, b"\xff\x00", Some(Version)),
+        (2, b"\x01\x01", None),
+        (2, b"\xff\xff", None),
+        (0, b"\x00\x02\x00\x02", Some(Version)),
+        (4, b"\xff\xff", None),
+        (6, b"\x00\x00", Some(Credits)),
+        (6, b"\x01\x00", None),
+        (6, b"\xff\xff", None),
+        (8, b"\x00\x00\x00\x00", None),
+        (8, b"\xff\xff\xff\xff", None),
+        (12, b"\x7f\x00\x00\x00", Some(ReceiveSize)),
+        (12, b"\x80\x00\x00\x00", None),
+        (12, b"\x81\x00\x00\x00", None),
+        (12, b"\xff\xff\xff\xff", None),
+        (16, b"\xff\xff\x01\x00", Some(FragmentedSize)),
+        (16, b"\x00\x00\x02\x00", None),
+        (16, b"\x01\x00\x02\x00", None),
+        (16, b"\xff\xff\xff\xff", None),
+        // two faults at once
+        (2, b"\xff\x00\x00\x00\x00\x00", Some(Version)),
+        (6, b"\x00\x00\x54\x05\x00\x00\x7f\x00", Some(Credits)),
+        (12, b"\x7f\x00\x00\x00\xff\xff\x01\x00", Some(ReceiveSize)),
+        (
+            6,
+            b"\x00\x00\x54\x05\x00\x00\x00\x20\x00\x00\xff\xff\x01\x00",
+            Some(Credits),
+        ),
+    ];
+    for (place, part, expected) in cases {
+        assert!(rt; place <= 20);
+        assert!(rt; part.len() <= 20 - place);
+        let bytes = request_with(place, part);
+        assert_eq!(rt; read_request(&bytes).err(), expected, "{part:?} at {place}");
+    }
+}
+
+#[test]
+fn a_response_has_its_first_fault(rt: HostRuntime) {
+    let usual = EndLimits::usual();
+    // each field at its bound and beside it
+    let cases: [(usize, &[u8], Option<NegotiateFault>); 37] = [
+        (0, b"\x00\x00", None),
+        (0, b"\xff\xff", None),
+        (2, b"\x00\x00", None),
+        (2, b"\xff\xff", None),
+        (4, b"\xff\x00", Some(Version)),
+        (4, b"\x01\x01", Some(Version)),
+        (6, b"\xff\xff", None),
+        (8, b"\x00\x00", Some(Credits)),
+        (8, b"\x01\x00", None),
+        (8, b"\xff\xff", None),
+        (10, b"\x00\x00", Some(Granted)),
+        (10, b"\x01\x00", None),
+        (10, b"\xfe\x00", None),
+        (10, b"\x00\x01", Some(Granted)),
+        (10, b"\xff\xff", Some(Granted)),
+        (12, b"\x01\x00\x00\x00", Some(Status)),
+        (12, b"\xbb\x00\x00\xc0", Some(Status)),
+        (12, b"\xff\xff\xff\xff", Some(Status)),
+        (16, b"\x00\x00\x00\x00", None),
+        (16, b"\xff\xff\xff\xff", None),
+        (20, b"\x00\x00\x00\x00", None),
+        (20, b"\xff\x1f\x00\x00", None),
+        (20, b"\x00\x20\x00\x00", None),
+        (20, b"\x01\x20\x00\x00", Some(SendSize)),
+        (24, b"\x7f\x00\x00\x00", Some(ReceiveSize)),
+        (24, b"\x80\x00\x00\x00", None),
+        (24, b"\xff\xff\xff\xff", None),
+        (28, b"\xff\xff\x01\x00", Some(FragmentedSize)),
+        (28, b"\x00\x00\x02\x00", None),
+        (28, b"\xff\xff\xff\xff", None),
+        // two faults at once, in the order of the checks
+        (4, b"\x00\x00\x00\x00\xff\x00\xff\x00\x01", Some(Status)),
+        (4, b"\x00\x00\x00\x00\x00\x00", Some(Version)),
+        (8, b"\x00\x00\x00\x00", Some(Credits)),
+        (
+            10,
+            b"\x00\x00\x00\x00\x00\x00\x00\x00\x10\x00\x01\x20",
+            Some(Granted),
+        ),
+        (20, b"\x01\x20\x00\x00\x7f\x00", Some(SendSize)),
+        (24, b"\x7f\x00\x00\x00\xff\xff\x01\x00", Some(ReceiveSize)),
+        (0, REFUSAL_BYTES, Some(Status)),
+    ];
+    for (place, part, expected) in cases {
+        assert!(rt; place <= 32);
+        assert!(rt; part.len() <= 32 - place);
+        let bytes = response_with(place, part);
+        assert_eq!(rt;
+            read_response(&bytes, &usual).err(),
+            expected,
+            "{part:?} at {place}"
+        );
+    }
+}
+
+#[test]
+fn each_field_is_read_at_its_place(rt: HostRuntime) {
+    let asked = b"\x01\x00\x03\x04\x05\x06\x07\x08\x09\x0a\x0b\x0c\x0d\x0e\x0f\x10\x11\x12\x13\x14";
+    let request = NegotiateRequest {
+        min_version: 0x0001,
+        max_version: 0x0403,
+        credits_requested: 0x0807,
+        preferred_send_size: 0x0c0b_0a09,
+        max_receive_size: 0x100f_0e0d,
+        max_fragmented_size: 0x1413_1211,
+    };
+    assert_eq!(rt; read_request(asked), Ok(request));
+    let answered =
+        b"\x01\x02\x03\x04\x00\x01\x07\x08\x09\x0a\x0b\x00\x00\x00\x00\x00\x11\x12\x13\x14\x15\x16\x00\x00\x19\x1a\x1b\x1c\x1d\x1e\x1f\x20";
+    let response = NegotiateResponse {
+        min_version: 0x0201,
+        max_version: 0x0403,
+        negotiated_version: 0x0100,
+        credits_requested: 0x0a09,
+        credits_granted: 0x000b,
+        status: 0,
+        max_read_write_size: 0x1413_1211,
+        preferred_send_size: 0x1615,
+        max_receive_size: 0x1c1b_1a19,
+        max_fragmented_size: 0x201f_1e1d,
+    };
+    assert_eq!(rt; read_response(answered, &EndLimits::usual()), Ok(response));
+}
+
+#[test]
+fn a_client_is_granted_and_sent_no_more_than_its_limits(rt: HostRuntime) {
+    // a client of 3 credits that receives frames of 128 bytes: CreditsGranted, Status, MaxReadWriteSize, PreferredSendSize
+    let own = EndLimits::check(3, 1_364, 128, 1_048_576, 64);
+    assert!(rt; own.is_ok());
+    let own = own.unwrap_or(EndLimits::usual());
+    let cases: [(&[u8; 12], Option<NegotiateFault>); 5] = [
+        (b"\x03\x00\x00\x00\x00\x00\x00\x00\x10\x00\x80\x00", None),
+        (b"\x02\x00\x00\x00\x00\x00\x00\x00\x10\x00\x7f\x00", None),
+        (
+            b"\x04\x00\x00\x00\x00\x00\x00\x00\x10\x00\x80\x00",
+            Some(Granted),
+        ),
+        (
+            b"\x03\x00\x00\x00\x00\x00\x00\x00\x10\x00\x81\x00",
+            Some(SendSize),
+        ),
+        (
+            b"\x00\x00\x00\x00\x00\x00\x00\x00\x10\x00\x81\x00",
+            Some(Granted),
+        ),
+    ];
+    for (part, expected) in cases {
+        let bytes = response_with(10, part);
+        assert_eq!(rt; read_response(&bytes, &own).err(), expected, "{part:?}");
+    }
+}
+
+#[test]
+fn short_messages_are_refused_and_long_ones_read(rt: HostRuntime) {
+    let usual = EndLimits::usual();
+    let mut request = [7; 40];
+    request[..20].copy_from_slice(REQUEST_BYTES);
+    let mut response = [7; 40];
+    response[..32].copy_from_slice(RESPONSE_BYTES);
+    let mut refused = [7; 40];
+    refused[..32].copy_from_slice(REFUSAL_BYTES);
+    for length in 0..41usize {
+        assert!(rt; length <= 40);
+        let asked = if length < 20 { Err(Short) } else { Ok(REQUEST) };
+        assert_eq!(rt; read_request(&request[..length]), asked, "{length} bytes");
+        let answered = if length < 32 {
+            Err(Short)
+        } else {
+            Ok(RESPONSE)
+        };
+        assert_eq!(rt;
+            read_response(&response[..length], &usual),
+            answered,
+            "{length} bytes"
+        );
+        let fault = if length < 32 { Short } else { Status };
+        assert_eq!(rt;
+            read_response(&refused[..length], &usual),
+            Err(fault),
+            "{length} bytes"
+        );
+    }
+}
+
+#[test]
+fn zeros_and_ones_are_no_message(rt: HostRuntime) {
+    let usual = EndLimits::usual();
+    // a byte, and the fault of a whole request and of a whole response of it
+    for (byte, in_request, in_response) in [(0, Version, Version), (0xff, Version, Status)] {
+        let bytes = [byte; 40];
+        for length in 0..41usize {
+            assert!(rt; length <= 40);
+            let asked = if length < 20 { Short } else { in_request };
+            assert_eq!(rt;
+                read_request(&bytes[..length]),
+                Err(asked),
+                "{length} of {byte}"
+            );
+            let answered = if length < 32 { Short } else { in_response };
+            assert_eq!(rt;
+                read_response(&bytes[..length], &usual),
+                Err(answered),
+                "{length} of {byte}"
+            );
+        }
+    }
+}
+
+#[test]
+fn writes_the_one_form(rt: HostRuntime) {
+    let mut request = [7; 20];
+    write_request(&EndLimits::usual(), &mut request);
+    assert_eq!(rt; &request, REQUEST_BYTES);
+    let cases: [(NegotiateResponse, &[u8; 32]); 3] = [
+        (RESPONSE, RESPONSE_BYTES),
+        (refusal(), REFUSAL_BYTES),
+        (
+            NegotiateResponse {
+                min_version: 0x0201,
+                max_version: 0x0403,
+                negotiated_version: 0x0605,
+                credits_requested: 0x0807,
+                credits_granted: 0x0a09,
+                status: 0x0e0d_0c0b,
+                max_read_write_size: 0x1211_100f,
+                preferred_send_size: 0x1615_1413,
+                max_receive_size: 0x1a19_1817,
+                max_fragmented_size: 0x1e1d_1c1b,
+            },
+            b"\x01\x02\x03\x04\x05\x06\x00\x00\x07\x08\x09\x0a\x0b\x0c\x0d\x0e\x0f\x10\x11\x12\x13\x14\x15\x16\x17\x18\x19\x1a\x1b\x1c\x1d\x1e",
+        ),
+    ];
+    for (response, expected) in cases {
+        let mut out = [7; 32];
+        write_response(&response, &mut out);
+        assert_eq!(rt; &out, expected, "{response:?}");
+    }
+}
+
+/// What an end of the usual limits has agreed with another.
+const AGREED: Agreed = Agreed {
+    send_size: 1_364,
+    message_max: 1_048_576,
+    read_write_max: None,
+    credits_requested: 255,
+};
+
+#[test]
+fn answers_with_the_smaller_of_asked_and_grantable(rt: HostRuntime) {
+    let usual = EndLimits::usual();
+    let cases: [(NegotiateRequest, u16, NegotiateResponse, Agreed); 6] = [
+        (REQUEST, 255, RESPONSE, AGREED),
+        (REQUEST, 256, RESPONSE, AGREED),
+        (
+            REQUEST,
+            1,
+            NegotiateResponse {
+                credits_granted: 1,
+                ..RESPONSE
+            },
+            AGREED,
+        ),
+        (
+            NegotiateRequest {
+                credits_requested: 3,
+                ..REQUEST
+            },
+            255,
+            NegotiateResponse {
+                credits_granted: 3,
+                ..RESPONSE
+            },
+            Agreed {
+                credits_requested: 3,
+                ..AGREED
+            },
+        ),
+        (
+            NegotiateRequest {
+                max_receive_size: 128,
+                preferred_send_size: 0,
+                ..REQUEST
+            },
+            255,
+            NegotiateResponse {
+                preferred_send_size: 128,
+                ..RESPONSE
+            },
+            Agreed {
+                send_size: 128,
+                ..AGREED
+            },
+        ),
+        (
+            NegotiateRequest {
+                max_fragmented_size: 131_072,
+                max_receive_size: 1_365,
+                ..REQUEST
+            },
+            255,
+            RESPONSE,
+            Agreed {
+                message_max: 131_072,
+                ..AGREED
+            },
+        ),
+    ];
+    for (request, grantable, response, agreed) in cases {
+        assert!(rt;
+            grantable >= 1 && request.min_version <= 0x0100 && request.max_version >= 0x0100
+        );
+        assert!(rt; request.credits_requested >= 1 && request.max_receive_size >= 128);
+        assert!(rt; request.max_fragmented_size >= 131_072);
+        assert_eq!(rt;
+            answer(&request, &usual, grantable),
+            (response, agreed),
+            "{request:?}, {grantable}"
+        );
+    }
+}
+
+#[test]
+fn a_client_settles_what_the_server_says(rt: HostRuntime) {
+    let usual = EndLimits::usual();
+    let read_write_max = Some(1_048_576);
+    // MaxReadWriteSize, PreferredSendSize, MaxReceiveSize and MaxFragmentedSize
+    let cases: [(&[u8; 16], Agreed); 3] = [
+        (
+            b"\x00\x00\x10\x00\x54\x05\x00\x00\x00\x20\x00\x00\x00\x00\x10\x00",
+            Agreed {
+                read_write_max,
+                ..AGREED
+            },
+        ),
+        (
+            b"\x00\x00\x10\x00\x00\x00\x00\x00\x80\x00\x00\x00\x00\x00\x02\x00",
+            Agreed {
+                send_size: 128,
+                message_max: 131_072,
+                read_write_max,
+                ..AGREED
+            },
+        ),
+        (
+            b"\x00\x00\x00\x00\x54\x05\x00\x00\x55\x05\x00\x00\x00\x00\x10\x00",
+            Agreed {
+                read_write_max: Some(0),
+                ..AGREED
+            },
+        ),
+    ];
+    for (part, agreed) in cases {
+        let bytes = response_with(16, part);
+        let settled = match read_response(&bytes, &usual) {
+            Ok(response) => Ok(settle(&response, &usual)),
+            Err(fault) => Err(fault),
+        };
+        assert_eq!(rt; settled, Ok(agreed), "{part:?}");
+    }
+}

@@ -1,0 +1,11 @@
+//! Tests of the crates of registered pages, by public calls alone.
+#![tactic(auto)]
+
+#[cfg(test)]
+mod accesses;
+#[cfg(test)]
+mod records;
+#[cfg(test)]
+mod regions;
+#[cfg(test)]
+mod slots;
