@@ -34,15 +34,6 @@ some-none (Some fault) e = refl
 
 -- ---- whether it was accepted
 
--- an end that accepted a first frame took one
-pub welcomed_heard : (side : EndId) (limits : Limits) (past : List Event) → is_welcomed side limits past ≡ true → is_unheard past ≡ false
-welcomed_heard side limits [] w = absurd cc
-welcomed_heard side limits (Post n ∷ past) w = welcomed_heard side limits past w
-welcomed_heard side limits (Submit m ∷ past) w = welcomed_heard side limits past w
-welcomed_heard side limits (Emit f ∷ past) w = welcomed_heard side limits past w
-welcomed_heard side limits (Take f ∷ past) w = refl
-welcomed_heard side limits (Cut ∷ past) w = welcomed_heard side limits past w
-
 pub unheard_unwelcome : (side : EndId) (limits : Limits) (past : List Event) → is_unheard past ≡ true → is_welcomed side limits past ≡ false
 unheard_unwelcome side limits [] u = refl
 unheard_unwelcome side limits (Post n ∷ past) u = unheard_unwelcome side limits past u

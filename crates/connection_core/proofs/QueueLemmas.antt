@@ -24,7 +24,8 @@ use Rattle.fragmenter.specs.Cut.{Cutting, pieces_left, next_place, piece_at, adv
 use Rattle.fragmenter.specs.declared.piece.Piece.{Piece as Place}
 use Rattle.connection_core.specs.Queue.{IsUnderWay, AreUnderWay, IsQueue, Queued, IsSendable, AreSendable, AreWaiting, IsBegun, Queues, started, pieces_unsent, after_piece, to_cut, with_message, begun_with, begun_by, cut_after, after_sending, sent_from}
 use Rattle.connection_core.proofs.CutLemmas.{place_of, not_zero, next_place-some, pieces_left-cons, pieces_left-none, piece_at-length}
-use Rattle.connection_core.proofs.PeerLemmas.{welcomed_heard, size_wide}
+use Rattle.connection_core.proofs.PeerLemmas.{size_wide}
+use Rattle.smbd_base.proofs.Hearing.{welcomed_heard}
 
 -- the piece that the first of some messages gives next
 abbrev pub next_piece : Cutting → Piece

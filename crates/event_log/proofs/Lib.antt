@@ -1,6 +1,7 @@
 pub mod BatchLemmas
 pub mod FrameLemmas
 pub mod FrameTexts
+pub mod NextParts
 pub mod NumberLemmas
 pub mod PartLemmas
 pub mod PlainParts

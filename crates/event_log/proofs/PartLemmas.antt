@@ -32,11 +32,11 @@ parts_of-some (b ∷ bytes) =
     (onto_some b (parts_of bytes))
 
 -- what a position says
-position_at : (t : Bool) (n i : ℕ) → cond t (Some n) None ≡ Some i → (t ≡ true) × (n ≡ i)
+pub position_at : (t : Bool) (n i : ℕ) → cond t (Some n) None ≡ Some i → (t ≡ true) × (n ≡ i)
 position_at true n i h = (refl, cc)
 position_at false n i h = cc
 
-position_none : (t : Bool) (n : ℕ) → cond t (Some n) None ≡ None → t ≡ false
+pub position_none : (t : Bool) (n : ℕ) → cond t (Some n) None ≡ None → t ≡ false
 position_none true n h = cc
 position_none false n h = refl
 

@@ -20,40 +20,14 @@ use Rattle.event_log.specs.declared.word.Word.{Word}
 use Rattle.event_log.specs.declared.word.Word.TheVariants as words
 use Rattle.event_log.specs.Lines.{side_text, right_text, words_of, line_text, IsBetween, IsEnd, IsWorker, IsInPage, IsLawfulLine}
 use Rattle.event_log.specs.Reading.{parts_of, end_named, worker_named, side_named, end_word, page_word, right_named, word_named, number_in, next_number, next_right, line_at_end, token_numbered, post_of, submit_of, emit_of, take_of, load_of, fetch_of, place_of, unload_of, after_side, after_word, with_side, or_number, line_of_word, line_of_parts, reading_of, ◌>>=◌}
-use Rattle.event_log.proofs.NumberLemmas.{number_in-some}
+use Rattle.event_log.proofs.NextParts.{stepped, same_some, IsNumberPart, number_part, then_parts}
 use Rattle.event_log.proofs.FrameTexts.{frame_line-ok}
 
 -- ---- steps
 
-stepped : {A B : Type 0} (o : Option A) (step : A → Option B) (y : B) → (o >>= step) ≡ Some y → (x : A) × (o ≡ Some x) × (step x ≡ Some y)
-stepped (Some x) step y h = (x, refl, h)
-stepped None step y h = cc
-
-same_some : {A : Type 0} (x y : A) → ◌≡◌ {A = Option A} (Some x) (Some y) → x ≡ y
-same_some x y h = cc
-
 if_some : {A : Type 0} (t : Bool) (x y : A) → cond t (Some x) None ≡ Some y → (t ≡ true) × (x ≡ y)
 if_some true x y h = (refl, cc)
 if_some false x y h = cc
-
--- the next part was a number of the range
-record IsNumberPart (least most n : ℕ) (parts later : List (List ℕ)) : Type 0 where
-  fits : IsBetween least most n
-  part : parts ≡ decimal n ∷ later
-
-number_part : (least most : ℕ) (parts : List (List ℕ)) (x : ℕ × List (List ℕ)) → next_number least most parts ≡ Some x
-    → IsNumberPart least most x.0 parts x.1
-number_part least most [] x h = absurd (let b : ⊥ = cc in b)
-number_part least most (part ∷ parts) x h =
-    let s = stepped (number_in least most part) _ x h in
-    let pair : (s.0, parts) ≡ x = same_some _ _ s.2 in
-    let value : s.0 ≡ x.0 = ap (λ (p : ℕ × List (List ℕ)). p.0) pair in
-    let rest : parts ≡ x.1 = ap (λ (p : ℕ × List (List ℕ)). p.1) pair in
-    let n = number_in-some least most x.0 part (s.1 ∙ ap Some value) in
-    record {
-      fits = record { low = n.low; high = n.high };
-      part = ap (λ (p : List ℕ). p ∷ parts) n.spelled ∙ ap (λ (ps : List (List ℕ)). decimal x.0 ∷ ps) rest;
-    }
 
 right_is : (name : List ℕ) (right : Right) → right_named name ≡ Some right → name ≡ right_text right
 unfolding right_named
@@ -77,9 +51,6 @@ right_part (part ∷ parts) x h =
 no_part : (line whole : LogLine) (parts : List (List ℕ)) → line_at_end line parts ≡ Some whole → (parts ≡ []) × (line ≡ whole)
 no_part line whole [] h = (refl, cc)
 no_part line whole (part ∷ parts) h = cc
-
-then_parts : (part : List ℕ) (parts later more : List (List ℕ)) → parts ≡ part ∷ later → later ≡ more → parts ≡ part ∷ more
-then_parts part parts later more h k = h ∙ ap (λ (ps : List (List ℕ)). part ∷ ps) k
 
 token_text : (n : ℕ) → number_of (token_numbered n) ≡ n
 token_text n = omega arith

@@ -11,7 +11,7 @@ use Rattle.smbd_base.specs.Balance.{IsBalanced}
 use Rattle.smbd_base.specs.Grant.{credits_in}
 use Rattle.smbd_base.specs.Counts.{peer_of, frames_sent, frames_taken, credits_granted, credits_earned, credits_held, is_unheard, is_out_of_turn}
 use Rattle.smbd_base.specs.Joint.{AreAccounted, emitted_frames, taken_frames}
-use Rattle.joint_laws.proofs.Counting.{sent_is, taken_most, grants_in, grants_in-front, granted_is, earned_most}
+use Rattle.smbd_base.proofs.Counting.{sent_is, taken_most, grants_in, grants_in-front, granted_is, earned_most}
 
 -- an end holds just what it has earned and not spent
 pub record HoldsEarned (side : EndId) (past : List Event) : Type 0 where

@@ -1,4 +1,3 @@
-pub mod Counting
 pub mod Speaking
 pub mod Accounts
 pub mod Granting

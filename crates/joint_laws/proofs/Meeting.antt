@@ -15,7 +15,7 @@ use Rattle.smbd_base.proofs.Inversion.{emits, posts}
 use Rattle.joint_laws.specs.Credits.{AreBalanced}
 use Rattle.joint_laws.specs.Receives.{posted_before_sending, IsOpened, MeetReceives}
 use Rattle.joint_laws.proofs.Accounts.{peer-peer, taken_sent}
-use Rattle.joint_laws.proofs.Counting.{sent_is, grants_in, granted_is, earned_most}
+use Rattle.smbd_base.proofs.Counting.{sent_is, grants_in, granted_is, earned_most}
 use Rattle.joint_laws.proofs.Growing.{IsBeside, client_beside, turned}
 use Rattle.joint_laws.proofs.Ordering.{taken_before_most}
 

@@ -16,25 +16,10 @@ use Rattle.smbd_base.specs.DataFrame.{data_frame_of}
 use Rattle.smbd_base.specs.Counts.{frames_taken, is_silent, is_unheard, is_out_of_turn}
 use Rattle.smbd_base.specs.History.{take_fault, fault_expecting, negotiate_fault, data_fault, bytes_expected, peer_opening, is_agreed, is_welcomed, is_version_fault, is_server, is_version_refused, IsLegal}
 use Rattle.smbd_base.specs.Joint.{AreAccepted, emitted_frames, taken_frames}
+use Rattle.smbd_base.proofs.Hearing.{spoken_heard}
 use Rattle.smbd_base.proofs.Inversion.{emits, both, from_not, in_turn}
 use Rattle.smbd_base.proofs.NegotiationLaws.{lawful_request}
-use Rattle.joint_laws.proofs.Counting.{is_empty, silent_is, unheard_is}
-
--- ---- a server speaks only once it has heard
-
-heard : (limits : Limits) (past : List Event) → IsLegal Server limits past → is_silent past ≡ false → is_unheard past ≡ false
-heard limits [] legal spoken = absurd cc
-heard limits (Post n ∷ past) legal spoken = heard limits past legal.1 spoken
-heard limits (Submit m ∷ past) legal spoken = heard limits past legal.1 spoken
-heard limits (Emit f ∷ past) legal spoken =
-    elim (emits Server limits past f legal.0).chosen.why as (λ _. is_unheard past ≡ false) [
-      | inl first ↦ from_not (is_unheard past) (both (is_silent past) _ first.0).1
-      | inr later ↦
-          let agreed : is_agreed Server limits past ≡ true = (both (is_agreed Server limits past) _ later.1).0 in
-          heard limits past legal.1 (from_not (is_silent past) (both (is_welcomed Server limits past) _ agreed).1)
-    ]
-heard limits (Take f ∷ past) legal spoken = refl
-heard limits (Cut ∷ past) legal spoken = heard limits past legal.1 spoken
+use Rattle.smbd_base.proofs.Counting.{is_empty, silent_is, unheard_is}
 
 is_empty-front : {A : Type 0} (xs ys : List A) → is_empty (xs ++ ys) ≡ true → is_empty xs ≡ true
 is_empty-front [] ys none = refl
@@ -50,7 +35,7 @@ both_silent limits client server legal front silent = by_test (is_silent server)
 
   by_test : (t : Bool) → is_silent server ≡ t → is_silent server ≡ true
   by_test true is = is
-  by_test false is = let h = heard limits server legal is in let u = unheard in absurd (let b : ⊥ = cc in b)
+  by_test false is = let h = spoken_heard limits server legal is in let u = unheard in absurd (let b : ⊥ = cc in b)
 
 -- ---- no frame was refused
 

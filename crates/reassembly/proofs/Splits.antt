@@ -5,36 +5,16 @@ use Rattle.std.proofs.lemmas.Bool.{cases_lt}
 use Rattle.std.proofs.lemmas.List.{length-append, map-append}
 use Rattle.std.proofs.lemmas.List.Concat.{flat_map-append}
 use Rattle.smbd_base.specs.Pieces.{Piece, joined, IsRun, IsWhole, AreWhole, IsRest, SplitsInto}
+use Rattle.smbd_base.proofs.RunLemmas.{pieces_in, joined-more, run_more, rest_more, whole_more}
 use Rattle.reassembly.specs.Gathering.{Gathering, GathersWhatSplits, AreAccepted, opened, messages_gathered, gathered_so, piece_fault, message_of, with_accepted}
 use Rattle.reassembly.proofs.Accepted.{fits_begun, accepted-fits, message_of-more, message_of-last, with_accepted-more, with_accepted-last}
 
-abbrev pieces_in : List (List Piece) → List Piece
-pieces_in runs = flat_map (λ (run : List Piece). run) runs
-
 -- ---- a run, and one piece more
-
-joined-more : (run : List Piece) (p : Piece) → joined (run ++ p ∷ []) ≡ joined run ++ p.payload
-joined-more run p =
-    flat_map-append (λ (q : Piece). q.payload) run (p ∷ []) ∙ ap (λ (bytes : List ℕ). joined run ++ bytes) (append-nil p.payload)
-
-run_more : (expected : ℕ) (run : List Piece) (p : Piece) → IsRun expected run → expected ≡ length p.payload + p.remaining → IsRun p.remaining (run ++ p ∷ [])
-run_more expected [] p r is = (omega arith, tt)
-run_more expected (q ∷ later) p r is =
-    let long : length (joined (later ++ p ∷ [])) ≡ length (joined later) + length p.payload = rw (joined-more later p) (length-append (joined later) p.payload) in
-    (omega (arith, r.0), run_more expected later p r.1 is)
 
 -- a piece that fits goes on with the rest
 rest-run : (max expected : ℕ) (rest : List Piece) (p : Piece) → IsRest expected rest → (0 < expected → expected ≡ length p.payload + p.remaining) → IsRun p.remaining (rest ++ p ∷ [])
 rest-run max expected [] p r fits = (omega arith, tt)
 rest-run max expected (q ∷ later) p r fits = run_more expected (q ∷ later) p r.1 (fits r.0)
-
-rest_more : (rest : List Piece) (p : Piece) → IsRun p.remaining (rest ++ p ∷ []) → 0 < p.remaining → IsRest p.remaining (rest ++ p ∷ [])
-rest_more [] p r more = (more, r)
-rest_more (q ∷ later) p r more = (more, r)
-
-whole_more : (runs : List (List Piece)) (run : List Piece) → AreWhole runs → IsWhole run → AreWhole (runs ++ run ∷ [])
-whole_more [] run w here = (here, tt)
-whole_more (first ∷ runs) run w here = (w.0, whole_more runs run w.1 here)
 
 -- ---- one piece after another
 

@@ -11,7 +11,7 @@ use Rattle.std.proofs.lemmas.Bool.Decides.{nat_tests}
 use denote.Ref.{Bor}
 use Rattle.event_log.specs.Lines.{lines_text}
 use Rattle.event_log.specs.Reading.{parts_left}
-use Rattle.event_log.proofs.PartLemmas.{parts_of-some}
+use Rattle.event_log.proofs.PartLemmas.{parts_of-some, position_at, position_none}
 use Rattle.event_log.proofs.BatchLemmas.{lines_apart}
 use Rattle.sim_script.specs.declared.script_line.ScriptLine.{ScriptLine}
 use Rattle.sim_script.specs.Scripts.{line_at_end, without_empty_end, lines_in}
@@ -21,15 +21,6 @@ pub line_at_end-some : (line : ScriptLine) (rest : Option (Bor (List ℕ))) (byt
 line_at_end-some line rest bytes is =
     let h = parts_of-some bytes.now in
     sym (ap (λ (o : Option (Bor (List ℕ))). line_at_end line (parts_left o)) is ∙ ap (line_at_end line) h.all)
-
--- what a position says
-position_at : (t : Bool) (n i : ℕ) → cond t (Some n) None ≡ Some i → (t ≡ true) × (n ≡ i)
-position_at true n i h = (refl, cc)
-position_at false n i h = cc
-
-position_none : (t : Bool) (n : ℕ) → cond t (Some n) None ≡ None → t ≡ false
-position_none true n h = cc
-position_none false n h = refl
 
 -- a part that others follow is a line
 part_and_more : (part : List ℕ) (parts : List (List ℕ)) → 0 < length parts → without_empty_end (part ∷ parts) ≡ part ∷ without_empty_end parts

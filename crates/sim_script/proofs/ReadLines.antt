@@ -8,40 +8,12 @@ use Rattle.smbd_base.specs.declared.end_id.EndId.{EndId}
 use Rattle.smbd_base.specs.declared.end_id.EndId.TheVariants.{Client, Server}
 use Rattle.event_log.specs.Lines.{IsBetween}
 use Rattle.event_log.specs.Reading.{parts_of, number_in, next_number, ◌>>=◌}
-use Rattle.event_log.proofs.NumberLemmas.{number_in-some}
+use Rattle.event_log.proofs.NextParts.{stepped, same_some, IsNumberPart, number_part, then_parts}
 use Rattle.sim_script.specs.declared.script_line.ScriptLine.{ScriptLine}
 use Rattle.sim_script.specs.declared.script_line.ScriptLine.TheVariants.{Submit, Drive, Carry, Cut}
 use Rattle.sim_script.specs.declared.word.Word.{Word}
 use Rattle.sim_script.specs.declared.word.Word.TheVariants as words
 use Rattle.sim_script.specs.Scripts.{end_text, words_of, line_text, IsLawfulLine, word_named, end_named, next_end, line_at_end, submit_of, line_of_word, line_of_parts, script_line}
-
--- ---- steps
-
-stepped : {A B : Type 0} (o : Option A) (step : A → Option B) (y : B) → (o >>= step) ≡ Some y → (x : A) × (o ≡ Some x) × (step x ≡ Some y)
-stepped (Some x) step y h = (x, refl, h)
-stepped None step y h = cc
-
-same_some : {A : Type 0} (x y : A) → ◌≡◌ {A = Option A} (Some x) (Some y) → x ≡ y
-same_some x y h = cc
-
--- the next part was a number of the range
-record IsNumberPart (least most n : ℕ) (parts later : List (List ℕ)) : Type 0 where
-  fits : IsBetween least most n
-  part : parts ≡ decimal n ∷ later
-
-number_part : (least most : ℕ) (parts : List (List ℕ)) (x : ℕ × List (List ℕ)) → next_number least most parts ≡ Some x
-    → IsNumberPart least most x.0 parts x.1
-number_part least most [] x h = absurd (let b : ⊥ = cc in b)
-number_part least most (part ∷ parts) x h =
-    let s = stepped (number_in least most part) _ x h in
-    let pair : (s.0, parts) ≡ x = same_some _ _ s.2 in
-    let value : s.0 ≡ x.0 = ap (λ (p : ℕ × List (List ℕ)). p.0) pair in
-    let rest : parts ≡ x.1 = ap (λ (p : ℕ × List (List ℕ)). p.1) pair in
-    let n = number_in-some least most x.0 part (s.1 ∙ ap Some value) in
-    record {
-      fits = record { low = n.low; high = n.high };
-      part = ap (λ (p : List ℕ). p ∷ parts) n.spelled ∙ ap (λ (ps : List (List ℕ)). decimal x.0 ∷ ps) rest;
-    }
 
 end_is : (name : List ℕ) (end : EndId) → end_named name ≡ Some end → name ≡ end_text end
 unfolding end_named
@@ -65,9 +37,6 @@ end_part (part ∷ parts) x h =
 no_part : (line whole : ScriptLine) (parts : List (List ℕ)) → line_at_end line parts ≡ Some whole → (parts ≡ []) × (line ≡ whole)
 no_part line whole [] h = (refl, cc)
 no_part line whole (part ∷ parts) h = cc
-
-then_parts : (part : List ℕ) (parts later more : List (List ℕ)) → parts ≡ part ∷ later → later ≡ more → parts ≡ part ∷ more
-then_parts part parts later more h k = h ∙ ap (λ (ps : List (List ℕ)). part ∷ ps) k
 
 -- ---- the parts after each word and its end
 

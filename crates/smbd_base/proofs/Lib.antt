@@ -1,7 +1,9 @@
 pub mod BalanceLemmas
+pub mod Counting
 pub mod DeliveryLemmas
 pub mod EventLists
 pub mod FrameLaws
+pub mod Hearing
 pub mod Inversion
 pub mod LimitLemmas
 pub mod NegotiationLaws
@@ -13,4 +15,5 @@ pub mod PagesFitLaws
 pub mod PassLists
 pub mod PieceLemmas
 pub mod PoolLives
+pub mod RunLemmas
 pub mod WorkedRuns

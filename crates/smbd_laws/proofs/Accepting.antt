@@ -19,8 +19,9 @@ use Rattle.smbd_base.specs.Joint.{AreAccepted, emitted_frames, taken_frames}
 use Rattle.smbd_base.specs.Pieces.{Piece, AreFilled, SplitsInto}
 use Rattle.smbd_base.specs.History.{take_fault, bytes_expected, peer_opening, is_new, is_refused, is_version_refused, is_closed, messages_submitted, pieces_sent, IsLegal}
 use Rattle.smbd_base.proofs.BalanceLemmas.{balanced}
+use Rattle.smbd_base.proofs.Hearing.{spoken_heard}
 use Rattle.smbd_base.proofs.Inversion.{emits, both, from_not, ready_parts, sending_parts}
-use Rattle.smbd_laws.proofs.Counting.{is_empty, sent_is, silent_is, unheard_is, taken_most, grants_in, grants_in-front, granted_is, earned_most}
+use Rattle.smbd_base.proofs.Counting.{is_empty, sent_is, silent_is, unheard_is, taken_most, grants_in, grants_in-front, granted_is, earned_most}
 use Rattle.smbd_laws.proofs.Delivering.{taken_carried}
 use Rattle.smbd_laws.proofs.Fitting.{AreShort, next_fits}
 use Rattle.smbd_laws.proofs.Gathering.{gathers}
@@ -32,19 +33,6 @@ use Rattle.smbd_laws.proofs.Settling.{Settles, settles_within}
 use Rattle.smbd_laws.proofs.Submitting.{pieces_submitted, submitted_some, submitted_short, size_of, size_some}
 
 -- ---- who has spoken
-
--- a server that has spoken has heard
-heard : (limits : Limits) (past : List Event) → IsLegal Server limits past → is_silent past ≡ false → is_unheard past ≡ false
-heard limits [] legal spoken = absurd cc
-heard limits (Post n ∷ past) legal spoken = heard limits past legal.1 spoken
-heard limits (Submit m ∷ past) legal spoken = heard limits past legal.1 spoken
-heard limits (Emit f ∷ past) legal spoken =
-    elim (emits Server limits past f legal.0).chosen.why as (λ _. is_unheard past ≡ false) [
-      | inl first ↦ from_not (is_unheard past) (both (is_silent past) _ first.0).1
-      | inr later ↦ heard limits past legal.1 (sending_parts Server limits past (emits Server limits past f legal.0).going.closed later.1).spoken
-    ]
-heard limits (Take f ∷ past) legal spoken = refl
-heard limits (Cut ∷ past) legal spoken = heard limits past legal.1 spoken
 
 is_empty-behind : {A : Type 0} (xs ys : List A) (y : A) → is_empty (xs ++ y ∷ ys) ≡ false
 is_empty-behind [] ys y = refl
@@ -59,7 +47,7 @@ not_early : (x : EndId) (other : Limits) (taker sender : List Event) (frame : Li
     → IsPrefix (taken_frames sender) (emitted_frames taker) → emitted_frames sender ≡ taken_frames taker ++ frame ∷ rest → is_early x taker ≡ false
 not_early Client other taker sender frame rest legal back e =
     let spoken : is_silent sender ≡ false = silent_is sender ∙ ap (λ (fs : List (List ℕ)). is_empty fs) e ∙ is_empty-behind (taken_frames taker) rest frame in
-    let some : is_empty (taken_frames sender) ≡ false = sym (unheard_is sender) ∙ heard other sender legal spoken in
+    let some : is_empty (taken_frames sender) ≡ false = sym (unheard_is sender) ∙ spoken_heard other sender legal spoken in
     silent_is taker ∙ ap (λ (fs : List (List ℕ)). is_empty fs) (sym back.1) ∙ is_empty-front (taken_frames sender) back.0 some
 not_early Server other taker sender frame rest legal back e = refl
 

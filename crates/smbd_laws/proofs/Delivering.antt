@@ -14,7 +14,7 @@ use Rattle.smbd_base.specs.Delivery.{and_piece, messages_delivered, pieces_taken
 use Rattle.smbd_base.specs.Joint.{AreAccepted, AreLinked, emitted_frames, taken_frames}
 use Rattle.smbd_base.specs.Pieces.{Piece}
 use Rattle.smbd_base.specs.History.{take_fault, bytes_expected, messages_submitted, pieces_sent, settled, IsLegal}
-use Rattle.smbd_laws.proofs.Counting.{is_empty, unheard_is}
+use Rattle.smbd_base.proofs.Counting.{is_empty, unheard_is}
 use Rattle.smbd_laws.proofs.Gathering.{gathers}
 use Rattle.smbd_laws.proofs.Joining.{splits_each, filled_each}
 use Rattle.smbd_laws.proofs.Refusing.{brought-first, brought-later}

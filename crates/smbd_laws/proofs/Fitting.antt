@@ -5,7 +5,8 @@ use Rattle.std.proofs.lemmas.List.{length-append, append_cancel_left}
 use Rattle.std.proofs.lemmas.List.Concat.{flat_map-append}
 use Rattle.smbd_base.specs.declared.faults.Broken.{Broken}
 use Rattle.smbd_base.specs.Pieces.{Piece, gather_fault, joined, IsRun, AreWhole, IsRest, AreFilled, SplitsInto}
-use Rattle.smbd_laws.proofs.Splitting.{pieces_in, front_runs}
+use Rattle.smbd_laws.proofs.Splitting.{front_runs}
+use Rattle.smbd_base.proofs.RunLemmas.{pieces_in}
 
 -- ---- the test
 

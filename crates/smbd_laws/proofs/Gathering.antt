@@ -9,22 +9,12 @@ use Rattle.smbd_base.specs.declared.event.Event.TheVariants.{Post, Submit, Emit,
 use Rattle.smbd_base.specs.Limits.{Limits}
 use Rattle.smbd_base.specs.Pieces.{Piece, Gathered, with_piece, gather_fault, joined, IsRun, IsWhole, AreWhole, IsRest, AreFilled, SplitsInto}
 use Rattle.smbd_base.specs.Delivery.{Delivers, and_piece, gather, gathered, messages_delivered, pieces_taken, piece_brought}
-use Rattle.smbd_laws.proofs.Splitting.{pieces_in}
+use Rattle.smbd_base.proofs.RunLemmas.{pieces_in, joined-more, run_more, rest_more, whole_more}
 use Rattle.smbd_base.specs.History.{bytes_expected}
 use Rattle.smbd_laws.proofs.Refusing.{IsTakeableIn, brought-takeable, expected_behind, expected-take}
 use Rattle.smbd_laws.proofs.Fitting.{fits_begun}
 
 -- ---- a run, and one piece more
-
-joined-more : (run : List Piece) (p : Piece) → joined (run ++ p ∷ []) ≡ joined run ++ p.payload
-joined-more run p =
-    flat_map-append (λ (q : Piece). q.payload) run (p ∷ []) ∙ ap (λ (bytes : List ℕ). joined run ++ bytes) (append-nil p.payload)
-
-run_more : (expected : ℕ) (run : List Piece) (p : Piece) → IsRun expected run → expected ≡ length p.payload + p.remaining → IsRun p.remaining (run ++ p ∷ [])
-run_more expected [] p r is = (omega arith, tt)
-run_more expected (q ∷ later) p r is =
-    let long : length (joined (later ++ p ∷ [])) ≡ length (joined later) + length p.payload = rw (joined-more later p) (length-append (joined later) p.payload) in
-    (omega (arith, r.0), run_more expected later p r.1 is)
 
 -- the piece is the next one of the message that is begun, or the first one of a message
 abbrev pub Continues : List Piece → ℕ → Piece → Type 0
@@ -34,14 +24,6 @@ Continues (q ∷ later) expected p = expected ≡ length p.payload + p.remaining
 begun_more : (expected : ℕ) (rest : List Piece) (p : Piece) → IsRest expected rest → Continues rest expected p → IsRun p.remaining (rest ++ p ∷ [])
 begun_more expected [] p r next = (omega arith, tt)
 begun_more expected (q ∷ later) p r next = run_more expected (q ∷ later) p r.1 next
-
-rest_more : (rest : List Piece) (p : Piece) → IsRun p.remaining (rest ++ p ∷ []) → 0 < p.remaining → IsRest p.remaining (rest ++ p ∷ [])
-rest_more [] p r more = (more, r)
-rest_more (q ∷ later) p r more = (more, r)
-
-whole_more : (runs : List (List Piece)) (run : List Piece) → AreWhole runs → IsWhole run → AreWhole (runs ++ run ∷ [])
-whole_more [] run w here = (here, tt)
-whole_more (first ∷ runs) run w here = (w.0, whole_more runs run w.1 here)
 
 filled_more : (pieces : List Piece) (p : Piece) → AreFilled pieces → 0 < length p.payload → AreFilled (pieces ++ p ∷ [])
 filled_more [] p f here = (here, tt)

@@ -3,7 +3,6 @@ pub mod Joining
 pub mod Fitting
 pub mod Refusing
 pub mod Gathering
-pub mod Counting
 pub mod Opening
 pub mod Settling
 pub mod Submitting

@@ -15,7 +15,7 @@ use Rattle.smbd_base.specs.History.{negotiation_fault, opening_frame, peer_openi
 use Rattle.smbd_base.proofs.BalanceLemmas.{balanced}
 use Rattle.smbd_base.proofs.Inversion.{Emits, emits, both, from_not, sending_parts}
 use Rattle.smbd_base.proofs.NegotiationLaws.{request_fields-request_bytes, response_fields-response_bytes, read_request_of-request_bytes, read_response_of-response_bytes, request_of_limits-fits, lawful_request_of_limits, lawful_answer, fits-answer}
-use Rattle.smbd_laws.proofs.Counting.{is_empty, silent_is, unheard_is}
+use Rattle.smbd_base.proofs.Counting.{is_empty, silent_is, unheard_is}
 use Rattle.smbd_laws.proofs.Refusing.{no_version_refused}
 
 -- ---- the first frame that was taken

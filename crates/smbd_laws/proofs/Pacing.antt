@@ -21,7 +21,8 @@ use Rattle.smbd_laws.proofs.Delivering.{taken_carried, taken_front}
 use Rattle.smbd_laws.proofs.Gathering.{gathers}
 use Rattle.smbd_laws.proofs.Joining.{AreSome, pieces_of-whole, pieces_of-filled, joined-pieces_of}
 use Rattle.smbd_laws.proofs.Sending.{pieces_carried, later_frames, speaks}
-use Rattle.smbd_laws.proofs.Splitting.{pieces_in, one_way, filled_after}
+use Rattle.smbd_laws.proofs.Splitting.{one_way, filled_after}
+use Rattle.smbd_base.proofs.RunLemmas.{pieces_in}
 use Rattle.smbd_laws.proofs.Settling.{settles_own, settles_least, stays_settled, least_agreement}
 use Rattle.smbd_laws.proofs.Submitting.{pieces_submitted, submitted_some, size_of, size_some}
 

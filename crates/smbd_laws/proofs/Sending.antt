@@ -20,7 +20,7 @@ use Rattle.smbd_base.specs.History.{data_frame_due, frame_due, pieces_sent, piec
 use Rattle.smbd_base.proofs.BalanceLemmas.{balanced, silent_opening}
 use Rattle.smbd_base.proofs.FrameLaws.{data_frame_of-empty, data_frame_of-filled, length-frame_bytes-empty, length-frame_bytes-filled}
 use Rattle.smbd_base.proofs.Inversion.{Emits, emits, sending_parts}
-use Rattle.smbd_laws.proofs.Counting.{is_empty, silent_is}
+use Rattle.smbd_base.proofs.Counting.{is_empty, silent_is}
 use Rattle.smbd_laws.proofs.Fitting.{not_zero}
 use Rattle.smbd_laws.proofs.Settling.{Settles, settles_before}
 use Rattle.smbd_laws.proofs.Submitting.{IsSendable, sendable, size_of, pieces_submitted, submitted-more}

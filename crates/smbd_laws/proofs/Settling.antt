@@ -13,21 +13,11 @@ use Rattle.smbd_base.specs.Counts.{is_silent, is_unheard, peer_of}
 use Rattle.smbd_base.specs.Joint.{emitted_frames, taken_frames}
 use Rattle.smbd_base.specs.NegotiateMessages.{request_fields, request_fault, response_fields, response_fault, fault_in_request, fault_in_response, IsLawfulAgreement}
 use Rattle.smbd_base.specs.History.{negotiation_fault, take_fault, peer_opening, settled, settled_by, is_agreed, is_welcomed, IsLegal}
+use Rattle.smbd_base.proofs.Hearing.{welcomed_heard}
 use Rattle.smbd_base.proofs.Inversion.{both}
 use Rattle.smbd_base.proofs.NegotiationLaws.{lawful_request, lawful_response, lawful_agreement_with_client, lawful_agreement_with_server}
 use Rattle.smbd_laws.proofs.Opening.{IsWithinPeer, told, first_sent, heard_first, front_first}
 use Rattle.smbd_laws.proofs.Refusing.{accepted_first}
-
--- ---- an end that was welcomed
-
--- it has heard
-pub welcomed_heard : (side : EndId) (limits : Limits) (past : List Event) → is_welcomed side limits past ≡ true → is_unheard past ≡ false
-welcomed_heard side limits [] w = absurd cc
-welcomed_heard side limits (Post n ∷ past) w = welcomed_heard side limits past w
-welcomed_heard side limits (Submit m ∷ past) w = welcomed_heard side limits past w
-welcomed_heard side limits (Emit f ∷ past) w = welcomed_heard side limits past w
-welcomed_heard side limits (Take f ∷ past) w = refl
-welcomed_heard side limits (Cut ∷ past) w = welcomed_heard side limits past w
 
 sound_by : (side : EndId) (limits : Limits) (past : List Event) (f : List ℕ) (unheard : Bool) → is_unheard past ≡ unheard
     → cond unheard (is_none (take_fault side limits past f)) (is_welcomed side limits past) ≡ true

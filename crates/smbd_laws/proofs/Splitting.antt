@@ -4,12 +4,8 @@ use Rattle.std.specs.List.{flat_map}
 use Rattle.std.proofs.lemmas.List.{length-append, map-append}
 use mathlib.Core.List.{IsPrefix}
 use Rattle.smbd_base.specs.Pieces.{Piece, joined, IsRun, IsWhole, AreWhole, IsRest, AreFilled, SplitsInto}
+use Rattle.smbd_base.proofs.RunLemmas.{pieces_in}
 
--- the pieces of these runs
-abbrev pub pieces_in : List (List Piece) → List Piece
-pieces_in runs = flat_map (λ (run : List Piece). run) runs
-
--- ---- one run
 
 -- what is left of a run, where it is not empty
 whole_tail : (p q : Piece) (later : List Piece) → IsWhole (p ∷ q ∷ later) → IsWhole (q ∷ later)
