@@ -4,8 +4,6 @@
 mod descriptor;
 mod descriptors;
 mod intervals;
-#[cfg(test)]
-mod tests;
 
 pub use descriptor::{Descriptor, DescriptorFault, read, write};
 pub use descriptors::{Descriptors, ListFault, read_list};

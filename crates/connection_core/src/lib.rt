@@ -11,8 +11,6 @@ mod history;
 mod outgoing;
 mod peer;
 mod refused;
-#[cfg(test)]
-mod tests;
 mod track;
 
 pub use end::End;

@@ -25,6 +25,3 @@ pub use reading::read_line;
 pub use side::Side;
 pub use worked::worked_texts;
 pub use writing::write_lines;
-
-#[cfg(test)]
-mod tests;

@@ -8,6 +8,3 @@ mod piece;
 
 pub use cutter::Cutter;
 pub use piece::Piece;
-
-#[cfg(test)]
-mod tests;

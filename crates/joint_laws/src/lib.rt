@@ -5,8 +5,6 @@
 mod credits;
 mod growth;
 mod receives;
-#[cfg(test)]
-mod tests;
 
 pub use credits::credits_balance_and_stay;
 pub use growth::{joint_histories_grow, opened_ends_are_joint};

@@ -18,6 +18,3 @@ pub use request::NegotiateRequest;
 pub use response::NegotiateResponse;
 pub use smbd_base::{Agreed, NegotiateFault};
 pub use writing::{write_request, write_response};
-
-#[cfg(test)]
-mod tests;

@@ -12,6 +12,3 @@ pub use fault::GatherFault;
 pub use gather::Gather;
 pub use laws::{gathered_pieces_split, split_pieces_are_gathered};
 pub use smbd_base::Broken;
-
-#[cfg(test)]
-mod tests;

@@ -4,8 +4,6 @@
 
 mod answers;
 mod region;
-#[cfg(test)]
-mod tests;
 
 pub use answers::{Register, Release};
 pub use region::Region;

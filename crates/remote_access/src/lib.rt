@@ -3,7 +3,5 @@
 #![tactic(auto)]
 
 mod access;
-#[cfg(test)]
-mod tests;
 
 pub use access::{Remote, read_from, write_to};

@@ -8,6 +8,3 @@ mod worked;
 pub use laws::{choices_add_lines, events_in_order, joint_histories_can_be_told, lines_of_runs};
 pub use telling::{lines_of_run, number_after, side_of};
 pub use worked::worked_lines;
-
-#[cfg(test)]
-mod tests;

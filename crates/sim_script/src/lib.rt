@@ -30,6 +30,3 @@ pub use reading::read_line;
 pub use script::read_script;
 pub use script_line::ScriptLine;
 pub use worked::worked_scripts;
-
-#[cfg(test)]
-mod tests;

@@ -20,8 +20,6 @@ mod no_memory;
 mod page_event;
 mod page_laws;
 mod right;
-#[cfg(test)]
-mod tests;
 mod token;
 mod worked;
 mod worked_pages;

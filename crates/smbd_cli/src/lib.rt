@@ -18,6 +18,3 @@ pub use options::{Channel, Command, CopyCommand, CopyKind, CopyOptions, Plain};
 pub use plain::run_plain;
 pub use program::run;
 pub use words::Word;
-
-#[cfg(test)]
-mod tests;

@@ -9,5 +9,3 @@ pub use deliveries::{deliveries_are_splits, delivery, delivery_keeps_pace};
 pub use flight::acceptance;
 pub use pieces::{pieces_join, pieces_split_one_way};
 
-#[cfg(test)]
-mod tests;

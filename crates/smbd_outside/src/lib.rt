@@ -26,6 +26,3 @@ pub use source::Source;
 pub use status::{Status, StatusText};
 pub use transfer::{Filled, fill, write_whole};
 pub use write_sink::WriteSink;
-
-#[cfg(test)]
-mod tests;

@@ -17,6 +17,3 @@ pub use reading::read;
 pub use smbd_base::FrameFault;
 pub use view::DataView;
 pub use writing::write;
-
-#[cfg(test)]
-mod tests;

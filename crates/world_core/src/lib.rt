@@ -4,8 +4,6 @@
 
 mod choice;
 mod linked_end;
-#[cfg(test)]
-mod tests;
 mod world;
 
 pub use choice::{Choice, Step};
