@@ -15,3 +15,5 @@ pub mod Pages
 pub mod PagesFit
 pub mod PageLaws
 pub mod WorkedPages
+pub mod WorkedLives
+pub mod WorkedSplits

@@ -24,7 +24,9 @@ mod right;
 mod tests;
 mod token;
 mod worked;
+mod worked_lives;
 mod worked_pages;
+mod worked_splits;
 
 pub use agreed::Agreed;
 pub use bytes::{u16_at, u32_at};
@@ -49,4 +51,6 @@ pub use page_laws::{lists_of_passes_fit, steps_make_page_lives};
 pub use right::Right;
 pub use token::Token;
 pub use worked::worked_histories;
+pub use worked_lives::worked_page_lives;
 pub use worked_pages::worked_page_lists;
+pub use worked_splits::worked_message_splits;
