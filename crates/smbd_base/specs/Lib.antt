@@ -10,6 +10,7 @@ pub mod Delivery
 pub mod Joint
 pub mod Balance
 pub mod Worked
+pub mod WorkedBounds
 pub mod Tokens
 pub mod Pages
 pub mod PagesFit

@@ -1,9 +1,8 @@
 -- Worked lives of pages: which steps a page allows, at the bounds of each, and what a pool's step changes. A past is a
 -- list, the newest event first.
-use Rattle.std.specs.Prelude.{◌≡◌, ℕ, ◌+◌, Some, None, List, [], ◌∷◌, ◌++◌, replicate, length, take, drop}
+use Rattle.std.specs.Prelude.{◌≡◌, ℕ, Some, None, List, [], ◌∷◌, ◌++◌, replicate}
 use Rattle.smbd_base.specs.declared.right.Right.{Right}
 use Rattle.smbd_base.specs.declared.right.Right.TheVariants as right
-use Rattle.smbd_base.specs.declared.page_event.PageEvent.{PageEvent}
 use Rattle.smbd_base.specs.declared.page_event.PageEvent.TheVariants.{Load, Fetch, Place, Unload}
 use Rattle.smbd_base.specs.Tokens.{PageToken, IsToken, number_of, token_of}
 use Rattle.smbd_base.specs.Pages.{Entry, PageState, IsPageStep, IsPageLife, IsPoolStep, page_state, page_after, opened_page, whole_page}

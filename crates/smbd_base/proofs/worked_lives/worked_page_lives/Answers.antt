@@ -1,7 +1,5 @@
-use Rattle.std.proofs.Common.{◌≡◌, ℕ, ◌≤◌, Some, List, [], ◌∷◌, length, refl, ap, subst, slice_index_or, replicate, lit≤, lit<, arith}
-use Rattle.smbd_base.specs.declared.right.Right.TheVariants as right
+use Rattle.std.proofs.Common.{◌≡◌, ℕ, ◌≤◌, Some, List, length, refl, ap, slice_index_or, lit≤, lit<, arith}
 use Rattle.smbd_base.specs.Pages.{LoadedPage, PageState, whole_page, part_of, page_at}
-use Rattle.smbd_base.specs.WorkedLives.{in_use, sevens, second_loaded}
 use Rattle.smbd_base.proofs.worked_lives.worked_page_lives.Goals as goal
 
 pub returns-clause-tokens : goal.returns-clause-tokens
