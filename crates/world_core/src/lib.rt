@@ -6,7 +6,9 @@ mod choice;
 mod linked_end;
 #[cfg(test)]
 mod tests;
+mod worked;
 mod world;
 
 pub use choice::{Choice, Step};
+pub use worked::worked_runs;
 pub use world::{World, run_script};
