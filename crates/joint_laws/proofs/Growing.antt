@@ -102,7 +102,7 @@ quiet_cut side own_limits peer_limits own peer follows h = record {
   peer_after = record { each = h.peer_after.each };
 }
 
-IsPrefix-longer : (xs ys more : List (List ℕ)) → IsPrefix xs ys → IsPrefix xs (ys ++ more)
+pub IsPrefix-longer : (xs ys more : List (List ℕ)) → IsPrefix xs ys → IsPrefix xs (ys ++ more)
 IsPrefix-longer xs ys more front = (front.0 ++ more, sym (append_assoc xs front.0 more) ∙ ap (λ (fs : List (List ℕ)). fs ++ more) front.1)
 
 -- a credit is left after one was spent

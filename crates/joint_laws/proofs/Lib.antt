@@ -4,3 +4,4 @@ pub mod Granting
 pub mod Ordering
 pub mod Growing
 pub mod Meeting
+pub mod Timing

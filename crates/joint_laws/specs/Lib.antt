@@ -1,3 +1,5 @@
 pub mod Growth
 pub mod Credits
 pub mod Receives
+pub mod OrderOfTime
+pub mod WorkedJoint

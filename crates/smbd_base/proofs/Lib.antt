@@ -9,7 +9,6 @@ pub mod LimitLemmas
 pub mod NegotiationLaws
 pub mod NextLemmas
 pub mod PageContents
-pub mod PageExamples
 pub mod PageGenerations
 pub mod PagesFitLaws
 pub mod PassLists

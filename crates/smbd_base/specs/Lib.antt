@@ -10,8 +10,11 @@ pub mod Delivery
 pub mod Joint
 pub mod Balance
 pub mod Worked
+pub mod WorkedBounds
 pub mod Tokens
 pub mod Pages
 pub mod PagesFit
 pub mod PageLaws
 pub mod WorkedPages
+pub mod WorkedLives
+pub mod WorkedSplits

@@ -123,12 +123,6 @@ abbrev pub entries_on : ℕ → List Entry → List Entry
 entries_on page [] = []
 entries_on page (e ∷ past) = if page_in e.event == page then e ∷ entries_on page past else entries_on page past
 
--- each entry of a pool is a step of its page
-abbrev pub IsPoolLife : ℕ → List Entry → Type 0
-IsPoolLife first [] = Unit {0}
-IsPoolLife first (e ∷ past) =
-    IsPageStep e.event (page_state first (entries_on (page_in e.event) past)) × IsPoolLife first past
-
 -- the state of a page of a pool; a page that the pool does not have is one that was never loaded
 abbrev pub page_at : ℕ → List PageState → PageState
 page_at page pages = slice_index_or pages page (opened_page 1)

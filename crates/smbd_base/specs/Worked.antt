@@ -19,28 +19,28 @@ use Rattle.smbd_base.specs.History.{next_event, take_fault, submit_fault, bytes_
 use Rattle.smbd_base.specs.Delivery.{messages_delivered}
 
 -- the negotiate request of the usual limits
-abbrev request : List ℕ
+abbrev pub request : List ℕ
 request = 0 ∷ 1 ∷ 0 ∷ 1 ∷ 0 ∷ 0 ∷ 255 ∷ 0 ∷ 84 ∷ 5 ∷ 0 ∷ 0 ∷ 0 ∷ 32 ∷ 0 ∷ 0 ∷ 0 ∷ 0 ∷ 16 ∷ 0 ∷ []
 
 -- the negotiate response of the usual limits, which grants 255 credits
-abbrev response : List ℕ
+abbrev pub response : List ℕ
 response =
     0 ∷ 1 ∷ 0 ∷ 1 ∷ 0 ∷ 1 ∷ 0 ∷ 0 ∷ 255 ∷ 0 ∷ 255 ∷ 0 ∷ 0 ∷ 0 ∷ 0 ∷ 0
     ∷ 0 ∷ 0 ∷ 16 ∷ 0 ∷ 84 ∷ 5 ∷ 0 ∷ 0 ∷ 0 ∷ 32 ∷ 0 ∷ 0 ∷ 0 ∷ 0 ∷ 16 ∷ 0 ∷ []
 
 -- the message `abc`, and the frame that carries it, asks for 255 credits and grants 255
-abbrev abc : List ℕ
+abbrev pub abc : List ℕ
 abc = 97 ∷ 98 ∷ 99 ∷ []
 
-abbrev abc_frame : List ℕ
+abbrev pub abc_frame : List ℕ
 abc_frame =
     255 ∷ 0 ∷ 255 ∷ 0 ∷ 0 ∷ 0 ∷ 0 ∷ 0 ∷ 0 ∷ 0 ∷ 0 ∷ 0 ∷ 24 ∷ 0 ∷ 0 ∷ 0 ∷ 3 ∷ 0 ∷ 0 ∷ 0 ∷ 0 ∷ 0 ∷ 0 ∷ 0 ∷ abc
 
 -- both ends after the negotiation
-abbrev agreed_client : List Event
+abbrev pub agreed_client : List Event
 agreed_client = Post 1 ∷ Take response ∷ Emit request ∷ Post 255 ∷ []
 
-abbrev agreed_server : List Event
+abbrev pub agreed_server : List Event
 agreed_server = Emit response ∷ Post 1 ∷ Take request ∷ Post 255 ∷ []
 
 pub record OpensSo : Type 0 where
@@ -91,39 +91,39 @@ pub record RefusesSo : Type 0 where
   pub empty_submit : submit_fault Client usual_limits agreed_client [] ≡ Some refusals.Empty
 
 -- both ends with 3 credits
-abbrev three : Limits
+abbrev pub three : Limits
 three = record { credits = 3; send_size = 1364; receive_size = 8192; fragmented_size = 1048576; pages = 64 }
 
 -- a message of 3,000 bytes, and its three frames
-abbrev long : List ℕ
+abbrev pub long : List ℕ
 long = replicate 3000 7
 
-abbrev first_frame : List ℕ
+abbrev pub first_frame : List ℕ
 first_frame = frame_bytes 3 3 false 1660 (replicate 1340 7)
 
-abbrev second_frame : List ℕ
+abbrev pub second_frame : List ℕ
 second_frame = frame_bytes 3 0 true 320 (replicate 1340 7)
 
-abbrev third_frame : List ℕ
+abbrev pub third_frame : List ℕ
 third_frame = frame_bytes 3 1 false 0 (replicate 320 7)
 
 -- an empty frame that asks for 3 credits and grants so many
-abbrev empty_frame : ℕ → List ℕ
+abbrev pub empty_frame : ℕ → List ℕ
 empty_frame granted = 3 ∷ 0 ∷ granted ∷ 0 ∷ replicate 16 0
 
-abbrev three_request : List ℕ
+abbrev pub three_request : List ℕ
 three_request = request_bytes (request_of_limits three)
 
-abbrev three_response : List ℕ
+abbrev pub three_response : List ℕ
 three_response = response_bytes (answer_to (request_of_limits three) three 3)
 
-abbrev three_client : List Event
+abbrev pub three_client : List Event
 three_client = Post 1 ∷ Take three_response ∷ Emit three_request ∷ Post 3 ∷ []
 
-abbrev two_sent : List Event
+abbrev pub two_sent : List Event
 two_sent = Emit second_frame ∷ Emit first_frame ∷ Submit long ∷ three_client
 
-abbrev three_server : List Event
+abbrev pub three_server : List Event
 three_server = Emit three_response ∷ Post 1 ∷ Take three_request ∷ Post 3 ∷ []
 
 pub record CreditsSo : Type 0 where
@@ -149,11 +149,11 @@ pub record CutsSo : Type 0 where
   pub one : pieces_of 1340 (take 1340 long) ≡ (record { payload = replicate 1340 7; remaining = 0 }) ∷ []
 
 -- the server once it has taken this frame and posted the receive anew
-abbrev then_taken : List ℕ → List Event → List Event
+abbrev pub then_taken : List ℕ → List Event → List Event
 then_taken frame past = Post 1 ∷ Take frame ∷ past
 
 -- the second piece of the message, but for its last remaining byte
-abbrev short_frame : List ℕ
+abbrev pub short_frame : List ℕ
 short_frame = frame_bytes 3 0 true 319 (replicate 1340 7)
 
 -- the three pieces are gathered
@@ -175,14 +175,14 @@ pub record GathersSo : Type 0 where
   pub after : message_limit Client usual_limits agreed_client ≡ 1048576
 
 -- bytes with another number at this place
-abbrev with_u16 : ℕ → ℕ → List ℕ → List ℕ
+abbrev pub with_u16 : ℕ → ℕ → List ℕ → List ℕ
 with_u16 place n bytes = take place bytes ++ to_le_bytes w16 n ++ drop (place + 2) bytes
 
-abbrev with_u32 : ℕ → ℕ → List ℕ → List ℕ
+abbrev pub with_u32 : ℕ → ℕ → List ℕ → List ℕ
 with_u32 place n bytes = take place bytes ++ to_le_bytes w32 n ++ drop (place + 4) bytes
 
 -- the refusing response
-abbrev refusal : List ℕ
+abbrev pub refusal : List ℕ
 refusal =
     0 ∷ 1 ∷ 0 ∷ 1 ∷ 0 ∷ 0 ∷ 0 ∷ 0 ∷ 0 ∷ 0 ∷ 0 ∷ 0 ∷ 187 ∷ 0 ∷ 0 ∷ 192
     ∷ 0 ∷ 0 ∷ 0 ∷ 0 ∷ 0 ∷ 0 ∷ 0 ∷ 0 ∷ 0 ∷ 0 ∷ 0 ∷ 0 ∷ 0 ∷ 0 ∷ 0 ∷ 0 ∷ []
@@ -228,10 +228,10 @@ pub record NegotiatesSo : Type 0 where
       ≡ record { send_size = 1364; message_max = 1048576; read_write_max = Some 1048576; credits_requested = 255 }
 
 -- a request of version 0x0200
-abbrev newer_request : List ℕ
+abbrev pub newer_request : List ℕ
 newer_request = with_u16 0 512 (with_u16 2 512 request)
 
-abbrev newer_taken : List Event
+abbrev pub newer_taken : List Event
 newer_taken = Take newer_request ∷ Post 255 ∷ []
 
 -- how an end refuses a negotiation message
@@ -257,22 +257,22 @@ pub record DeclinesSo : Type 0 where
   pub no_response : next_event Client usual_limits (Take (with_u16 4 257 response) ∷ Emit request ∷ Post 255 ∷ []) ≡ due.Close
 
 -- a client of 3 credits that receives 128 bytes at a time, and a server of 5 that receives 512
-abbrev small_client : Limits
+abbrev pub small_client : Limits
 small_client = record { credits = 3; send_size = 8192; receive_size = 128; fragmented_size = 131072; pages = 16 }
 
-abbrev large_server : Limits
+abbrev pub large_server : Limits
 large_server = record { credits = 5; send_size = 4096; receive_size = 512; fragmented_size = 200000; pages = 16 }
 
-abbrev small_request : List ℕ
+abbrev pub small_request : List ℕ
 small_request = request_bytes (request_of_limits small_client)
 
-abbrev large_response : List ℕ
+abbrev pub large_response : List ℕ
 large_response = response_bytes (answer_to (request_of_limits small_client) large_server 5)
 
-abbrev small_agreed : List Event
+abbrev pub small_agreed : List Event
 small_agreed = Post 1 ∷ Take large_response ∷ Emit small_request ∷ Post 3 ∷ []
 
-abbrev large_agreed : List Event
+abbrev pub large_agreed : List Event
 large_agreed = Emit large_response ∷ Post 1 ∷ Take small_request ∷ Post 5 ∷ []
 
 -- what two ends of unequal limits settle

@@ -22,7 +22,10 @@ mod page_laws;
 mod right;
 mod token;
 mod worked;
+mod worked_bounds;
+mod worked_lives;
 mod worked_pages;
+mod worked_splits;
 
 pub use agreed::Agreed;
 pub use bytes::{u16_at, u32_at};
@@ -47,4 +50,7 @@ pub use page_laws::{lists_of_passes_fit, steps_make_page_lives};
 pub use right::Right;
 pub use token::Token;
 pub use worked::worked_histories;
+pub use worked_bounds::worked_boundaries;
+pub use worked_lives::worked_page_lives;
 pub use worked_pages::worked_page_lists;
+pub use worked_splits::worked_message_splits;

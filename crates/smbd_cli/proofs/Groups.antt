@@ -1,5 +1,5 @@
 -- The groups of the bytes of a put, and the replies to its requests.
-use Rattle.std.proofs.Common.{◌≡◌, ℕ, zero, suc, ◌+◌, ◌-◌, ◌*◌, ◌<◌, ◌≤◌, Bool, true, false, List, [], ◌∷◌, ◌++◌, length, take, drop, map, refl, sym, ap, ◌∙◌, length-append, lit<, arith}
+use Rattle.std.proofs.Common.{◌≡◌, ℕ, zero, suc, ◌+◌, ◌-◌, ◌*◌, ◌<◌, ◌≤◌, Bool, true, false, List, [], ◌∷◌, ◌++◌, length, take, drop, map, refl, sym, ap, ◌∙◌, length-append, lit<, lit≤, arith}
 use Rattle.std.specs.Int.{w16, to_le_bytes}
 use Rattle.std.specs.List.{flat_map}
 use Rattle.std.proofs.lemmas.List.{take-append-le, drop-append-le, take-append-drop, length-drop, map-append}
@@ -145,6 +145,7 @@ agreed_rest = record {
   requests = tt;
   replied = refl;
   answered = refl;
+  follows = (lit≤ tt, (lit≤ tt, (lit≤ tt, (lit≤ tt, tt))));
   granted = refl;
 }
 

@@ -1,6 +1,7 @@
 pub mod Completing
 pub mod Course
 pub mod Ending
+pub mod Following
 pub mod Groups
 pub mod LineLemmas
 pub mod Logging

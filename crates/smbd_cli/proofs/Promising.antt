@@ -18,7 +18,7 @@ use Rattle.smbd_cli.specs.Put.{HasPut}
 use Rattle.smbd_cli.specs.Settled.{GoesOn}
 use Rattle.smbd_cli.specs.Telling.{new_text, told_after}
 use Rattle.smbd_cli.proofs.Logging.{log_more, log_cut, told_all}
-use Rattle.smbd_cli.proofs.Sounding.{IsSaidOf, said_whole, said_groups, sound_of, prefix_of-equal}
+use Rattle.smbd_cli.proofs.Sounding.{IsSaidOf, said_whole, said_groups, sound_of, told_first, prefix_of-equal}
 
 -- how the writing of lines may stop
 abbrev pub StopsTelling : Status → ℕ → ℕ → Type 0
@@ -45,13 +45,16 @@ module _ (source sink log : Stream) (c s : List Event) (ct st : Told) (bytes : L
   said_so_far more = said_groups (length bytes / 262144 * 4) false bytes more whole
 
   sound_so_far : (more : List ℕ) → IsSound (course_so_far more)
-  sound_so_far more = sound_of c s false false bytes (bytes ++ more) bytes b.so_far.text b.so_far.said (said_so_far more) (prefix_of-equal bytes bytes refl)
+  sound_so_far more =
+      sound_of c s false false bytes (bytes ++ more) bytes b.so_far.text b.so_far.said (said_so_far more) (prefix_of-equal bytes bytes refl)
+      (λ some. told_first (course_so_far more) c s false bytes b.so_far.text ([], refl) ([], refl) b.so_far.is_log ([], append-nil b.so_far.text) b.so_far.said (said_so_far more) (prefix_of-equal bytes bytes refl))
 
   moves_so_far : (more : List ℕ) (source_now : Option (List ℕ)) (faults : ℕ) → Consumes source.now source_now more → Moves (moved source source_now faults) sink log (course_so_far more)
   moves_so_far more source_now faults read = record {
     read = Consumes-trans source.before source.now source_now bytes more b.read read;
     stored = b.so_far.stored;
     logged = b.so_far.logged;
+    ended = λ e. absurd (let b : ⊥ = cc in b);
   }
 
   pub stops_reading : (more : List ℕ) (source_now : Option (List ℕ)) (faults : ℕ) (status : Status) → Consumes source.now source_now more
@@ -60,13 +63,13 @@ module _ (source sink log : Stream) (c s : List Event) (ct st : Told) (bytes : L
     course = course_so_far more;
     moves = moves_so_far more source_now faults read;
     sound = sound_so_far more;
-    ends = (b.so_far.is_log, omega (arith, long.1, length-append bytes more), (said_so_far more).stored);
+    ends = (b.so_far.is_log, omega (arith, long.1, length-append bytes more), (said_so_far more).stored, refl);
   })
   stops_reading more source_now faults status read (inr fault) = rw fault.0 (record {
     course = course_so_far more;
     moves = moves_so_far more source_now faults read;
     sound = sound_so_far more;
-    ends = (b.so_far.is_log, omega (arith, fault.1, length-append bytes more), (said_so_far more).stored, omega (arith, fault.2, b.counted.reads));
+    ends = (b.so_far.is_log, omega (arith, fault.1, length-append bytes more), (said_so_far more).stored, omega (arith, fault.2, b.counted.reads), refl);
   })
 
   pub stops_without_memory : (more : List ℕ) (source_now : Option (List ℕ)) (faults : ℕ) → Consumes source.now source_now more → length bytes + length more ≤ 16777216
@@ -82,8 +85,10 @@ module _ (source sink log : Stream) (c s : List Event) (ct st : Told) (bytes : L
 pub stops_done : (source sink log : Stream) (c s : List Event) (ct st : Told) (bytes : List ℕ) → IsBetween source sink log c s ct st true bytes → KeepsPromise Done source sink log
 stops_done source sink log c s ct st bytes b = record {
   course = record { client = c; server = s; bytes = bytes; ended = true; stored = bytes; text = b.so_far.text };
-  moves = record { read = b.read; stored = b.so_far.stored; logged = b.so_far.logged };
-  sound = sound_of c s true true bytes bytes bytes b.so_far.text b.so_far.said (said_whole bytes) (prefix_of-equal bytes bytes refl);
+  moves = record { read = b.read; stored = b.so_far.stored; logged = b.so_far.logged; ended = b.last };
+  sound = sound_of c s true true bytes bytes bytes b.so_far.text b.so_far.said (said_whole bytes) (prefix_of-equal bytes bytes refl)
+      (λ some. told_first (record { client = c; server = s; bytes = bytes; ended = true; stored = bytes; text = b.so_far.text }) c s true bytes b.so_far.text
+          ([], refl) ([], refl) b.so_far.is_log ([], append-nil b.so_far.text) b.so_far.said (said_whole bytes) (prefix_of-equal bytes bytes refl));
   ends = (record { logged = b.so_far.is_log; short = b.short; ended = refl; stored = refl; answered = b.so_far.said.to_client ∙ b.so_far.said.replies }, b.last refl);
 }
 
@@ -109,8 +114,10 @@ module _ (source sink log : Stream) (client server : Shown) (ct st : Told) (befo
       let said = said_groups (length b.earlier / 262144 * 4) ended b.earlier bytes whole in
       record {
         course = record { client = b.told_client; server = b.told_server; bytes = b.earlier ++ bytes; ended = ended; stored = b.earlier; text = b.so_far.text };
-        moves = record { read = b.read; stored = b.so_far.stored; logged = b.so_far.logged };
-        sound = sound_of b.told_client b.told_server false ended b.earlier (b.earlier ++ bytes) b.earlier b.so_far.text b.so_far.said said (prefix_of-equal b.earlier b.earlier refl);
+        moves = record { read = b.read; stored = b.so_far.stored; logged = b.so_far.logged; ended = b.last };
+        sound = sound_of b.told_client b.told_server false ended b.earlier (b.earlier ++ bytes) b.earlier b.so_far.text b.so_far.said said (prefix_of-equal b.earlier b.earlier refl)
+            (λ some. told_first (record { client = b.told_client; server = b.told_server; bytes = b.earlier ++ bytes; ended = ended; stored = b.earlier; text = b.so_far.text })
+                b.told_client b.told_server false b.earlier b.so_far.text ([], refl) ([], refl) b.so_far.is_log ([], append-nil b.so_far.text) b.so_far.said said (prefix_of-equal b.earlier b.earlier refl));
         ends = (whole_begins b.told_client b.told_server b.so_far.text b.so_far.is_log, omega (arith, b.short, b.earlier_is, length-append b.earlier bytes), said.stored);
       }
 
@@ -139,47 +146,61 @@ module _ (source sink log : Stream) (client server : Shown) (ct st : Told) (befo
     abbrev course_told : List ℕ → Course
     course_told front = record { client = client_now.past; server = server_now.past; bytes = b.earlier ++ bytes; ended = ended; stored = b.earlier; text = b.so_far.text ++ front }
 
-    sound_told : (stored text : List ℕ) → IsPrefix stored (b.earlier ++ bytes)
-        → IsSound (record { client = client_now.past; server = server_now.past; bytes = b.earlier ++ bytes; ended = ended; stored = stored; text = text })
-    sound_told stored text stores = sound_of client_now.past server_now.past ended ended (b.earlier ++ bytes) (b.earlier ++ bytes) stored text said said_now stores
+    said_before : IsSaidOf false b.earlier ended (b.earlier ++ bytes)
+    said_before = said_groups (length b.earlier / 262144 * 4) ended b.earlier bytes (turns_of (length b.earlier) turns_before)
+
+    sound_told : (front : List ℕ) → IsSound (course_told front)
+    sound_told front =
+        sound_of client_now.past server_now.past ended ended (b.earlier ++ bytes) (b.earlier ++ bytes) b.earlier (b.so_far.text ++ front) said said_now (bytes, refl)
+        (λ some. told_first (course_told front) b.told_client b.told_server false b.earlier b.so_far.text c_all s_all b.so_far.is_log (front, refl) b.so_far.said said_before (prefix_of-equal b.earlier b.earlier refl))
 
     stored_before : StoresGroups (course_told [])
-    stored_before = (said_groups (length b.earlier / 262144 * 4) ended b.earlier bytes (turns_of (length b.earlier) turns_before)).stored
+    stored_before = said_before.stored
 
     pub stops_telling : (log_now_known : Option (List ℕ)) (faults : ℕ) (status : Status) → AppendsFront log.now log_now_known (new_text ct st ce se) → StopsTelling status log.faults faults
         → KeepsPromise status source sink (moved log log_now_known faults)
     stops_telling log_now_known faults status front (inl fault) = rw fault.0 (record {
       course = course_told front.front;
-      moves = record { read = b.read; stored = b.so_far.stored; logged = Appends-trans log.before log.now log_now_known b.so_far.text front.front b.so_far.logged front.got };
-      sound = sound_told b.earlier (b.so_far.text ++ front.front) (bytes, refl);
+      moves = record { read = b.read; stored = b.so_far.stored; logged = Appends-trans log.before log.now log_now_known b.so_far.text front.front b.so_far.logged front.got; ended = b.last };
+      sound = sound_told front.front;
       ends = (log_cut client_now.past server_now.past b.so_far.text (new_text ct st ce se) front.front log_now front.begins, short_now, stored_before, omega (arith, fault.1, b.counted.logs));
     })
     stops_telling log_now_known faults status front (inr memory) = rw memory (record {
       course = course_told front.front;
-      moves = record { read = b.read; stored = b.so_far.stored; logged = Appends-trans log.before log.now log_now_known b.so_far.text front.front b.so_far.logged front.got };
-      sound = sound_told b.earlier (b.so_far.text ++ front.front) (bytes, refl);
+      moves = record { read = b.read; stored = b.so_far.stored; logged = Appends-trans log.before log.now log_now_known b.so_far.text front.front b.so_far.logged front.got; ended = b.last };
+      sound = sound_told front.front;
       ends = (log_cut client_now.past server_now.past b.so_far.text (new_text ct st ce se) front.front log_now front.begins, short_now, stored_before);
     })
+
+    -- all was told, and the sink got a front of it
+    abbrev course_stored : List ℕ → Course
+    course_stored front = record {
+      client = client_now.past;
+      server = server_now.past;
+      bytes = b.earlier ++ bytes;
+      ended = ended;
+      stored = b.earlier ++ front;
+      text = b.so_far.text ++ new_text ct st ce se;
+    }
+
+    sound_stored : (front : List ℕ) → IsPrefix (b.earlier ++ front) (b.earlier ++ bytes) → IsSound (course_stored front)
+    sound_stored front stores =
+        sound_of client_now.past server_now.past ended ended (b.earlier ++ bytes) (b.earlier ++ bytes) (b.earlier ++ front) (b.so_far.text ++ new_text ct st ce se) said said_now stores
+        (λ some. told_first (course_stored front) client_now.past server_now.past ended (b.earlier ++ bytes) (b.so_far.text ++ new_text ct st ce se) ([], refl) ([], refl) log_now
+            ([], append-nil (b.so_far.text ++ new_text ct st ce se)) said said_now stores)
 
     -- the sink failed
     pub stops_storing : (log_now_known sink_now : Option (List ℕ)) (log_faults sink_faults : ℕ) (stored : List ℕ) → Appends log.now log_now_known (new_text ct st ce se) → stored ≡ bytes
         → AppendsFront sink.now sink_now stored → Rose sink.faults sink_faults → KeepsPromise WriteFault source (moved sink sink_now sink_faults) (moved log log_now_known log_faults)
     stops_storing log_now_known sink_now log_faults sink_faults stored logged stored_is front rose = record {
-      course = record {
-        client = client_now.past;
-        server = server_now.past;
-        bytes = b.earlier ++ bytes;
-        ended = ended;
-        stored = b.earlier ++ front.front;
-        text = b.so_far.text ++ new_text ct st ce se;
-      };
+      course = course_stored front.front;
       moves = record {
         read = b.read;
         stored = Appends-trans sink.before sink.now sink_now b.earlier front.front b.so_far.stored front.got;
         logged = Appends-trans log.before log.now log_now_known b.so_far.text (new_text ct st ce se) b.so_far.logged logged;
+        ended = b.last;
       };
-      sound = sound_told (b.earlier ++ front.front) (b.so_far.text ++ new_text ct st ce se)
-          (front.begins.0, append_assoc b.earlier front.front front.begins.0 ∙ ap (λ (l : List ℕ). b.earlier ++ l) (front.begins.1 ∙ stored_is));
+      sound = sound_stored front.front (front.begins.0, append_assoc b.earlier front.front front.begins.0 ∙ ap (λ (l : List ℕ). b.earlier ++ l) (front.begins.1 ∙ stored_is));
       ends = (log_now, short_now, omega (arith, rose, b.counted.writes));
     }
 

@@ -1,7 +1,7 @@
 -- Two ends at rest, between two requests of a put.
 use Rattle.std.proofs.Common.{◌≡◌, ℕ, ◌-◌, ◌≤◌, ◌==◌, nat_lt, Bool, true, false, cond, List, [], ◌∷◌, ◌++◌, length, None, map, refl, sym, ap, ◌∙◌, subst, append_assoc, length-append, lit≤, lit<, arith}
 use Rattle.std.proofs.lemmas.Bool.Decides.{nat_tests}
-use Rattle.std.proofs.lemmas.List.{append-nil, map-append, nil_from_length}
+use Rattle.std.proofs.lemmas.List.{append-nil, length-map, map-append, nil_from_length}
 use Rattle.smbd_base.specs.declared.end_id.EndId.{EndId}
 use Rattle.smbd_base.specs.declared.end_id.EndId.TheVariants.{Client, Server}
 use Rattle.smbd_base.specs.declared.event.Event.{Event}
@@ -14,6 +14,7 @@ use Rattle.connection_core.specs.Shown.{Shown}
 use Rattle.smbd_cli.specs.Carried.{with_past}
 use Rattle.smbd_cli.specs.FileMessages.{reply_for, write_reply, end_reply}
 use Rattle.smbd_cli.specs.Put.{AreRequests, AreAtRest, ArePair, HasCalled, with_submitted}
+use Rattle.smbd_cli.proofs.Following.{follows_further}
 use Rattle.smbd_cli.specs.Settled.{GoesOn, pieces_of_all, IsSettled, IsBeside, AreBeside, FitsPut, AllFitPut, HasSent, CanSend, HasSentOne}
 
 -- ---- lists of messages
@@ -106,6 +107,7 @@ rest_submit c s m r fits whole = record {
   requests = requests_snoc (messages_submitted c) m r.requests whole;
   replied = r.replied;
   answered = r.answered;
+  follows = r.follows;
   granted = r.granted;
 }
 
@@ -171,6 +173,9 @@ rest_again c s c1 s1 c2 s2 m r h x y =
     let to_server : messages_delivered Server usual_limits s2 ≡ messages_delivered Server usual_limits s1 = y.other_delivered in
     let from_client : messages_submitted c2 ≡ messages_submitted c1 = y.other_submitted in
     let from_server : messages_submitted s2 ≡ messages_submitted s1 ++ reply ∷ [] = y.submitted in
+    let asked_first : length (messages_submitted s1 ++ reply ∷ []) ≤ length (messages_delivered Server usual_limits s1) =
+    omega (arith, length-append (messages_submitted s1) (reply ∷ []), ap length (x.other_submitted ∙ h.replied), length-map (messages_delivered Server usual_limits s) reply_for,
+    ap length x.delivered, length-append (messages_delivered Server usual_limits s) (m ∷ [])) in
     record {
       pair = beside_back Server Client s2 c2 y.pair;
       sent = record {
@@ -186,6 +191,7 @@ rest_again c s c1 s1 c2 s2 m r h x y =
           ∙ ap (map reply_for) (sym (to_server ∙ x.delivered));
       answered = front_all (messages_delivered Client usual_limits c2) y.sent.front.0 (messages_submitted s2) y.sent.front.1
           (omega (arith, ap length y.delivered, ap length all, ap length from_server, length-append (messages_submitted s1) (reply ∷ []), length-append (messages_delivered Client usual_limits c1) (r ∷ [])));
+      follows = follows_further (Submit reply ∷ s1) s2 y.from_more y.submitted (asked_first, follows_further s s1 x.to_more x.other_submitted h.follows);
       granted = y.granted;
     }
 

@@ -1,7 +1,7 @@
 -- What was said between two ends is a sound course of a copy.
-use Rattle.std.proofs.Common.{◌≡◌, ℕ, ◌+◌, ◌-◌, ◌*◌, ◌/◌, ◌≤◌, Bool, true, false, List, [], ◌++◌, length, take, drop, map, refl, sym, ap, ◌∙◌, append_assoc, length-append, lit<, arith}
+use Rattle.std.proofs.Common.{◌≡◌, ℕ, ◌+◌, ◌-◌, ◌*◌, ◌/◌, ◌<◌, ◌≤◌, Bool, true, false, List, [], ◌++◌, length, take, drop, map, refl, sym, ap, ◌∙◌, append_assoc, length-append, lit<, arith}
 use Rattle.std.specs.List.{flat_map}
-use Rattle.std.proofs.lemmas.List.{append-nil, take-append-drop, length-map, map-append, take-append-le, take_all}
+use Rattle.std.proofs.lemmas.List.{append-nil, take-append-drop, map-append, take-append-le, take_all}
 use Rattle.std.proofs.lemmas.Nat.{div-mul-add, le-div}
 use Rattle.std.proofs.Math.Nat.{div-mul-le_self}
 use Rattle.std.proofs.Math.Seq.{take-append-add}
@@ -13,7 +13,9 @@ use Rattle.smbd_base.specs.History.{messages_submitted}
 use Rattle.smbd_base.specs.Delivery.{messages_delivered}
 use Rattle.joint_laws.proofs.Meeting.{balances, client_meets, server_meets}
 use Rattle.smbd_cli.specs.Progress.{HasSaid}
-use Rattle.smbd_cli.specs.Promise.{IsSound, usable}
+use Rattle.smbd_cli.specs.Settled.{GoesOn}
+use Rattle.smbd_cli.specs.LogText.{IsLog}
+use Rattle.smbd_cli.specs.Promise.{Course, IsSound, IsToldFirst, usable}
 use Rattle.smbd_cli.specs.PutRun.{Group, groups, groups_from, groups_count, write_of, reply_of, last_request, last_reply, put_requests, put_replies}
 use Rattle.smbd_cli.proofs.Groups.{groups_more, groups_join, length-groups}
 use Rattle.smbd_cli.proofs.Sending.{lawful}
@@ -28,16 +30,6 @@ prefix_length : {A : Type 0} (xs ys : List A) → IsPrefix xs ys → length xs �
 prefix_length xs ys p = omega (arith, ap length p.1, length-append xs p.0)
 
 -- ---- requests and replies of the first groups
-
-same_length : (ended : Bool) (bytes : List ℕ) → length (put_replies ended bytes) ≡ length (put_requests ended bytes)
-same_length true bytes =
-    length-append (map reply_of (groups bytes)) (last_reply true bytes)
-    ∙ ap (λ (n : ℕ). n + 1) (length-map (groups bytes) reply_of ∙ sym (length-map (groups bytes) write_of))
-    ∙ sym (length-append (map write_of (groups bytes)) (last_request true bytes))
-same_length false bytes =
-    length-append (map reply_of (groups bytes)) []
-    ∙ ap (λ (n : ℕ). n + 0) (length-map (groups bytes) reply_of ∙ sym (length-map (groups bytes) write_of))
-    ∙ sym (length-append (map write_of (groups bytes)) [])
 
 first_of : {A : Type 0} (f : Group → A) (gs : List Group) (n : ℕ) (last : List A) → IsPrefix (map f (take n gs)) (map f gs ++ last)
 first_of {A = A} f gs n last = (
@@ -128,10 +120,33 @@ count_most xs ys le =
     let back = div-mul-le_self (length xs + 65535) 65536 in
     le-div ((length xs + 65535) / 65536) (length ys + 65535) 65536 (lit< tt) (omega (arith, le, back))
 
+-- the WRITEs of what is stored are among those that were said
+writes_came : (c s : List Event) (said_ended ended : Bool) (said bytes stored : List ℕ) → HasSaid c s said_ended said → IsSaidOf said_ended said ended bytes → IsPrefix stored said
+    → IsPrefix (map write_of (take (groups_count stored) (groups bytes))) (messages_delivered Server usual_limits s)
+writes_came c s said_ended ended said bytes stored h o stores =
+    rw (h.to_server, h.requests) (o.first (groups_count stored) (count_most stored said (prefix_length stored said stores)))
+
+-- what is stored was told before, in a log of earlier pasts
+pub told_first : (course : Course) (c s : List Event) (said_ended : Bool) (said text : List ℕ) → GoesOn c course.client → GoesOn s course.server → IsLog c s text → IsPrefix text course.text
+    → HasSaid c s said_ended said → IsSaidOf said_ended said course.ended course.bytes → IsPrefix course.stored said → IsToldFirst course
+told_first course c s said_ended said text c_more s_more log begins h o stores = record {
+  client = c;
+  server = s;
+  client_more = c_more;
+  server_more = s_more;
+  text = text;
+  log = log;
+  begins = begins;
+  brought = writes_came c s said_ended course.ended said course.bytes course.stored h o stores;
+}
+
 pub sound_of : (c s : List Event) (said_ended ended : Bool) (said bytes stored text : List ℕ) → HasSaid c s said_ended said → IsSaidOf said_ended said ended bytes → IsPrefix stored said
+    → (0 < length stored → IsToldFirst (record { client = c; server = s; bytes = bytes; ended = ended; stored = stored; text = text }))
     → IsSound (record { client = c; server = s; bytes = bytes; ended = ended; stored = stored; text = text })
-sound_of c s said_ended ended said bytes stored text h o stores = record {
+sound_of c s said_ended ended said bytes stored text h o stores first = record {
   joint = h.joint;
+  client_uncut = h.client_uncut;
+  server_uncut = h.server_uncut;
   credits = balances usual_limits usual_limits c s lawful lawful h.joint;
   client_receives = client_meets usual_limits usual_limits c s lawful lawful h.joint;
   server_receives = server_meets usual_limits usual_limits c s lawful lawful h.joint;
@@ -140,8 +155,9 @@ sound_of c s said_ended ended said bytes stored text h o stores = record {
   put = record {
     requests = rw h.requests o.requests;
     replies = rw h.replies o.replies;
-    answered = omega (arith, ap length h.replies, same_length said_ended said, ap length h.to_server, ap length h.requests);
+    answered = h.follows;
     stores = prefix_trans stored said bytes stores o.front;
-    brought = rw (h.to_server, h.requests) (o.first (groups_count stored) (count_most stored said (prefix_length stored said stores)));
+    brought = writes_came c s said_ended ended said bytes stored h o stores;
+    told_first = first;
   };
 }

@@ -43,6 +43,9 @@ said_of client server ended bytes p joint short =
       replies = rest.replied ∙ ap (map reply_for) (p.caught_up ∙ p.requests) ∙ replies_are ended bytes short;
       to_server = p.caught_up;
       to_client = rest.answered;
+      follows = rest.follows;
+      client_uncut = rest.pair.from_end.settled.cut;
+      server_uncut = rest.pair.to_end.settled.cut;
     }
 
 -- ---- before anything was sent
@@ -65,6 +68,9 @@ said_opening = record {
   replies = refl;
   to_server = refl;
   to_client = refl;
+  follows = (lit≤ tt, tt);
+  client_uncut = refl;
+  server_uncut = refl;
 }
 
 opening_log : IsLog opening opening opening_text
@@ -101,16 +107,16 @@ ends_opening source sink log log_now source_faults sink_faults log_faults log_fa
     let said = said_groups 0 false [] [] refl in
     rw fault.0 (record {
       course = record { client = opening; server = opening; bytes = []; ended = false; stored = []; text = front };
-      moves = record { read = Consumes-nil source; stored = Appends-nil sink; logged = got };
-      sound = sound_of opening opening false false [] [] [] front said_opening said (prefix_of-equal [] [] refl);
+      moves = record { read = Consumes-nil source; stored = Appends-nil sink; logged = got; ended = λ e. absurd (let b : ⊥ = cc in b) };
+      sound = sound_of opening opening false false [] [] [] front said_opening said (prefix_of-equal [] [] refl) (λ some. absurd (let b : ⊥ = omega arith in b));
       ends = (record { whole = opening_text; log = opening_log; begins = begins }, lit≤ tt, said.stored, fault.1);
     })
 ends_opening source sink log log_now source_faults sink_faults log_faults log_faults_now status front got begins (inr memory) =
     let said = said_groups 0 false [] [] refl in
     rw memory (record {
       course = record { client = opening; server = opening; bytes = []; ended = false; stored = []; text = front };
-      moves = record { read = Consumes-nil source; stored = Appends-nil sink; logged = got };
-      sound = sound_of opening opening false false [] [] [] front said_opening said (prefix_of-equal [] [] refl);
+      moves = record { read = Consumes-nil source; stored = Appends-nil sink; logged = got; ended = λ e. absurd (let b : ⊥ = cc in b) };
+      sound = sound_of opening opening false false [] [] [] front said_opening said (prefix_of-equal [] [] refl) (λ some. absurd (let b : ⊥ = omega arith in b));
       ends = (record { whole = opening_text; log = opening_log; begins = begins }, lit≤ tt, said.stored);
     })
 

@@ -4,7 +4,7 @@ use Rattle.std.specs.Io.KnownBytes.{Appends, Consumes, IsAtEnd}
 use Rattle.smbd_base.specs.declared.end_id.EndId.TheVariants.{Client, Server}
 use Rattle.smbd_base.specs.declared.event.Event.{Event}
 use Rattle.smbd_base.specs.Limits.{usual_limits}
-use Rattle.smbd_base.specs.History.{messages_submitted}
+use Rattle.smbd_base.specs.History.{messages_submitted, is_cut}
 use Rattle.smbd_base.specs.Delivery.{messages_delivered}
 use Rattle.smbd_base.specs.Joint.{AreJoint}
 use Rattle.smbd_outside.specs.declared.status.Status.{Status}
@@ -16,7 +16,7 @@ use Rattle.smbd_cli.specs.Lines.{take_count}
 use Rattle.smbd_cli.specs.LogText.{IsLog}
 use Rattle.smbd_cli.specs.Promise.{Stream}
 use Rattle.smbd_cli.specs.Put.{HasPut}
-use Rattle.smbd_cli.specs.PutRun.{put_requests, put_replies}
+use Rattle.smbd_cli.specs.PutRun.{put_requests, put_replies, RepliesFollow}
 use Rattle.smbd_cli.specs.Settled.{GoesOn}
 
 -- a stream that has come so far
@@ -30,6 +30,9 @@ pub record HasSaid (client server : List Event) (ended : Bool) (bytes : List ℕ
   pub replies : messages_submitted server ≡ put_replies ended bytes
   pub to_server : messages_delivered Server usual_limits server ≡ messages_submitted client
   pub to_client : messages_delivered Client usual_limits client ≡ messages_submitted server
+  pub follows : RepliesFollow server
+  pub client_uncut : is_cut client ≡ false
+  pub server_uncut : is_cut server ≡ false
 
 -- what is told of an end where all is told
 abbrev pub all_told : List Event → Told

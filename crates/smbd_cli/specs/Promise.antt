@@ -1,12 +1,12 @@
 -- The promise of a copy (this project's own). A past is a list of events, the newest one first.
-use Rattle.std.specs.Prelude.{◌≡◌, ℕ, ◌*◌, ◌/◌, ◌<◌, ◌≤◌, Bool, true, Option, Some, List, length, take, map, if◌then◌else◌}
+use Rattle.std.specs.Prelude.{◌≡◌, ℕ, ◌*◌, ◌/◌, ◌<◌, ◌≤◌, Bool, true, false, Option, Some, List, length, take, map, if◌then◌else◌}
 use Rattle.std.specs.Io.KnownBytes.{Appends, Consumes, IsAtEnd}
 use mathlib.Core.List.{IsPrefix}
 use Rattle.std.specs.List.{flat_map}
 use Rattle.smbd_base.specs.declared.end_id.EndId.TheVariants.{Client, Server}
 use Rattle.smbd_base.specs.declared.event.Event.{Event}
 use Rattle.smbd_base.specs.Limits.{usual_limits}
-use Rattle.smbd_base.specs.History.{messages_submitted}
+use Rattle.smbd_base.specs.History.{messages_submitted, is_cut}
 use Rattle.smbd_base.specs.Delivery.{messages_delivered}
 use Rattle.smbd_base.specs.Joint.{AreJoint}
 use Rattle.joint_laws.specs.Credits.{AreBalanced}
@@ -15,7 +15,8 @@ use Rattle.smbd_outside.specs.declared.status.Status.{Status}
 use Rattle.smbd_outside.specs.declared.status.Status.TheVariants.{Done, Usage, ReadFault, WriteFault, LogFault, TooLong, Cut, BadInput, NoMemory}
 use Rattle.smbd_outside.specs.Causes.{Rose}
 use Rattle.smbd_cli.specs.LogText.{IsLog, BeginsLog}
-use Rattle.smbd_cli.specs.PutRun.{Group, groups, groups_count, write_of, put_requests, put_replies}
+use Rattle.smbd_cli.specs.PutRun.{Group, groups, groups_count, write_of, put_requests, put_replies, RepliesFollow}
+use Rattle.smbd_cli.specs.Settled.{GoesOn}
 
 -- ---- what a copy was handed
 
@@ -41,11 +42,24 @@ pub record Course : Type 0 where
   pub stored : List ℕ
   pub text : List ℕ
 
--- these are what the source lost, and what the sink and the log gained
+-- these are what the source lost, and what the sink and the log gained; and its end was seen only where it is at its end
 pub record Moves (source sink log : Stream) (c : Course) : Type 0 where
   pub read : Consumes source.before source.now c.bytes
   pub stored : Appends sink.before sink.now c.stored
   pub logged : Appends log.before log.now c.text
+  pub ended : c.ended ≡ true → IsAtEnd source.now
+
+-- The log tells that requests came before the sink gets what they carry: it begins with the whole log of two earlier pasts,
+-- in which the WRITEs of all that the sink got were delivered.
+pub record IsToldFirst (c : Course) : Type 0 where
+  pub client : List Event
+  pub server : List Event
+  pub client_more : GoesOn client c.client
+  pub server_more : GoesOn server c.server
+  pub text : List ℕ
+  pub log : IsLog client server text
+  pub begins : IsPrefix text c.text
+  pub brought : IsPrefix (map write_of (take (groups_count c.stored) (groups c.bytes))) (messages_delivered Server usual_limits server)
 
 -- the bytes of which requests can be made: whole groups, where the end was not seen
 abbrev pub usable : Bool → List ℕ → List ℕ
@@ -57,16 +71,20 @@ pub record IsPutRun (c : Course) : Type 0 where
   pub requests : IsPrefix (messages_submitted c.client) (put_requests c.ended (usable c.ended c.bytes))
   -- the server submits the replies, in order, each after its request was delivered
   pub replies : IsPrefix (messages_submitted c.server) (put_replies c.ended (usable c.ended c.bytes))
-  pub answered : length (messages_submitted c.server) ≤ length (messages_delivered Server usual_limits c.server)
-  -- the sink gets the bytes in order, each group after the WRITE that brought it was delivered
+  pub answered : RepliesFollow c.server
+  -- the sink gets the bytes in order, each group after the WRITE that brought it was delivered, and after the log told so
   pub stores : IsPrefix c.stored c.bytes
   pub brought : IsPrefix (map write_of (take (groups_count c.stored) (groups c.bytes))) (messages_delivered Server usual_limits c.server)
+  pub told_first : 0 < length c.stored → IsToldFirst c
 
 -- what holds of a copy however it ends
 pub record IsSound (c : Course) : Type 0 where
   -- both ends follow their rules, no frame was refused, and each took what the other sent, in order; the credits of each
   -- direction balance; and the two histories fit into one order of time
   pub joint : AreJoint usual_limits usual_limits c.client c.server
+  -- neither end is cut: a cut can't be asked for
+  pub client_uncut : is_cut c.client ≡ false
+  pub server_uncut : is_cut c.server ≡ false
   -- no end sends without a receive that its peer has posted, or holds more credits than its peer posts receives, and the
   -- credits never all vanish
   pub credits : AreBalanced usual_limits usual_limits c.client c.server
@@ -104,13 +122,13 @@ pub record IsWhole (c : Course) : Type 0 where
   pub stored : c.stored ≡ c.bytes
   pub answered : messages_delivered Client usual_limits c.client ≡ put_replies true c.bytes
 
--- when each status comes, and what it leaves
+-- When each status comes, and what it leaves. Where the source failed, or had too much, its end was not seen.
 abbrev pub Ends : Status → Stream → Stream → Stream → Course → Type 0
 Ends Done source sink log c = IsWhole c × IsAtEnd source.now
-Ends ReadFault source sink log c = IsLogged c × IsShort c × StoresGroups c × Rose source.faults_before source.faults
+Ends ReadFault source sink log c = IsLogged c × IsShort c × StoresGroups c × Rose source.faults_before source.faults × (c.ended ≡ false)
 Ends WriteFault source sink log c = IsLogged c × IsShort c × Rose sink.faults_before sink.faults
 Ends LogFault source sink log c = IsLogCut c × IsShort c × StoresGroups c × Rose log.faults_before log.faults
-Ends TooLong source sink log c = IsLogged c × (16777216 < length c.bytes) × StoresGroups c
+Ends TooLong source sink log c = IsLogged c × (16777216 < length c.bytes) × StoresGroups c × (c.ended ≡ false)
 Ends NoMemory source sink log c = IsLogCut c × IsShort c × StoresGroups c
 Ends Usage source sink log c = ⊥
 Ends Cut source sink log c = ⊥

@@ -10,7 +10,7 @@ use Rattle.smbd_base.specs.History.{messages_submitted}
 use Rattle.smbd_base.specs.Delivery.{messages_delivered}
 use Rattle.connection_core.specs.Shown.{Shown}
 use Rattle.smbd_cli.specs.FileMessages.{reply_for, carried_by}
-use Rattle.smbd_cli.specs.PutRun.{groups_from, groups_count, write_of, put_requests}
+use Rattle.smbd_cli.specs.PutRun.{groups_from, groups_count, write_of, put_requests, RepliesFollow}
 use Rattle.smbd_cli.specs.Settled.{AreBeside, HasSent, GoesOn}
 
 -- a request has a header
@@ -27,6 +27,7 @@ pub record AreAtRest (client server : List Event) : Type 0 where
   pub requests : AreRequests (messages_submitted client)
   pub replied : messages_submitted server ≡ map reply_for (messages_delivered Server usual_limits server)
   pub answered : messages_delivered Client usual_limits client ≡ messages_submitted server
+  pub follows : RepliesFollow server
   -- the server has granted all that it could
   pub granted : receives_grantable Server server ≡ 0
 

@@ -1,5 +1,10 @@
 -- The requests of a put and their replies (this project's own).
-use Rattle.std.specs.Prelude.{ℕ, zero, suc, ◌+◌, ◌/◌, Bool, true, false, List, [], ◌∷◌, ◌++◌, length, take, drop, map}
+use Rattle.std.specs.Prelude.{ℕ, zero, suc, ◌+◌, ◌/◌, ◌≤◌, Bool, true, false, List, [], ◌∷◌, ◌++◌, length, take, drop, map}
+use Rattle.smbd_base.specs.declared.end_id.EndId.TheVariants.{Server}
+use Rattle.smbd_base.specs.declared.event.Event.{Event}
+use Rattle.smbd_base.specs.Limits.{usual_limits}
+use Rattle.smbd_base.specs.History.{messages_submitted}
+use Rattle.smbd_base.specs.Delivery.{messages_delivered}
 use Rattle.smbd_cli.specs.FileMessages.{write_request, end_request, write_reply, end_reply}
 
 -- a part of the bytes that one request carries: its number, from 1, and how many bytes stand before it
@@ -45,3 +50,9 @@ put_requests ended bytes = map write_of (groups bytes) ++ last_request ended byt
 -- the reply to each of them
 abbrev pub put_replies : Bool → List ℕ → List (List ℕ)
 put_replies ended bytes = map reply_of (groups bytes) ++ last_reply ended bytes
+
+-- each reply follows its request: at every moment of the server's past, no more replies were submitted than requests delivered
+abbrev pub RepliesFollow : List Event → Type 0
+RepliesFollow [] = Unit {0}
+RepliesFollow (e ∷ past) =
+    (length (messages_submitted (e ∷ past)) ≤ length (messages_delivered Server usual_limits (e ∷ past))) × RepliesFollow past

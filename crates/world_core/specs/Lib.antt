@@ -3,3 +3,4 @@ pub mod Linked
 pub mod Run
 pub mod Kept
 pub mod Paired
+pub mod Worked
