@@ -1,7 +1,7 @@
 ghost use Rattle.std.specs.Prelude.{◌≤◌};
 
-use smbd_cli::{Word, run};
 use smbd_base::NoMemory;
+use smbd_cli::{Word, run};
 use smbd_outside::{MemorySink, MemorySource, Status};
 use std::alloc::Global;
 use std::test::Fail;

@@ -1,8 +1,8 @@
 //! Runs with their lines.
 
-use run_log::lines_of_run;
 use EndId::{Client, Server};
 use event_log::Line;
+use run_log::lines_of_run;
 use smbd_base::{EndId, EndLimits, Message, NoMemory};
 use std::alloc::Global;
 use std::process::Abort;

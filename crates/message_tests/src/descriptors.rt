@@ -1,6 +1,6 @@
-use buffer_descriptor::{Descriptor, DescriptorFault, read, write};
-use buffer_descriptor::{Descriptors, ListFault, read_list};
-use buffer_descriptor::{covers, disjoint};
+use buffer_descriptor::{
+    Descriptor, DescriptorFault, Descriptors, ListFault, covers, disjoint, read, read_list, write,
+};
 use std::test::Fail;
 
 const WHOLE_PAGE: [u8; 16] = [0, 16, 0, 0, 0, 0, 0, 0, 1, 1, 0, 0, 0, 16, 0, 0];

@@ -1,9 +1,9 @@
 ghost use Rattle.std.specs.Prelude.{◌≡◌, ◌<◌, length};
 
-use remote_access::{Remote, read_from, write_to};
 use buffer_descriptor::{Descriptor, DescriptorFault, covers};
 use page_slots::PagePass;
 use registration::{Region, Register, Release};
+use remote_access::{Remote, read_from, write_to};
 use smbd_base::{Right, Token};
 use std::alloc::Global;
 use std::process::Abort;

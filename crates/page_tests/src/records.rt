@@ -1,12 +1,10 @@
 ghost use Rattle.std.specs.Prelude.{◌≡◌, ◌<◌, length};
 ghost use Rattle.token_table.specs.Records.{IsInPage};
 
-use token_table::{Claimed, Issue, Withdraw};
-use token_table::Record;
-use token_table::TokenTable;
 use smbd_base::{Right, Token};
 use std::process::Abort;
 use std::test::Fail;
+use token_table::{Claimed, Issue, Record, TokenTable, Withdraw};
 
 /// The record of the token's whole page.
 fn whole(token: Token) -> Record

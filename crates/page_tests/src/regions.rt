@@ -1,7 +1,6 @@
-use registration::{Register, Release};
-use registration::Region;
 use buffer_descriptor::Descriptor;
 use page_slots::Access;
+use registration::{Region, Register, Release};
 use smbd_base::{Right, Token};
 use std::test::Fail;
 use token_table::{Claimed, Issue};

@@ -1,8 +1,6 @@
 ghost use Rattle.std.specs.Prelude.{◌≡◌, ◌<◌, length};
 
-use page_slots::{Access, Load};
-use page_slots::PagePass;
-use page_slots::Pages;
+use page_slots::{Access, Load, PagePass, Pages};
 use smbd_base::{Right, Token};
 use std::process::Abort;
 use std::test::Fail;

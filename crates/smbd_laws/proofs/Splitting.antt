@@ -6,7 +6,6 @@ use mathlib.Core.List.{IsPrefix}
 use Rattle.smbd_base.specs.Pieces.{Piece, joined, IsRun, IsWhole, AreWhole, IsRest, AreFilled, SplitsInto}
 use Rattle.smbd_base.proofs.RunLemmas.{pieces_in}
 
-
 -- what is left of a run, where it is not empty
 whole_tail : (p q : Piece) (later : List Piece) → IsWhole (p ∷ q ∷ later) → IsWhole (q ∷ later)
 whole_tail p q later w = record { some = omega arith; unbroken = w.unbroken.1 }

@@ -8,4 +8,3 @@ mod pieces;
 pub use deliveries::{deliveries_are_splits, delivery, delivery_keeps_pace};
 pub use flight::acceptance;
 pub use pieces::{pieces_join, pieces_split_one_way};
-

@@ -4,12 +4,7 @@
 
 mod choice;
 mod linked_end;
-<<<<<<< HEAD
-=======
-#[cfg(test)]
-mod tests;
 mod worked;
->>>>>>> 25be39de125e73eb934f04a8885c982feb495657
 mod world;
 
 pub use choice::{Choice, Step};

@@ -2,13 +2,13 @@
 //!
 //! A test ends at once where memory is wanting: with a `?` beside values that are let go its proof would be dear.
 
-use world_core::{Choice, Step, World, run_script};
 use EndId::{Client, Server};
 use Step::{Did, Nothing};
 use smbd_base::{EndId, EndLimits, Event, Message};
 use std::alloc::Global;
 use std::process::Abort;
 use std::test::Fail;
+use world_core::{Choice, Step, World, run_script};
 
 mod long;
 

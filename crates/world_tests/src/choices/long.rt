@@ -3,12 +3,12 @@
 use super::{
     MEMORY, Turn, add_turns, choice_of, count_sent, counted_submit, has_delivered, open, step,
 };
-use world_core::{Choice, Step, World, run_script};
 use EndId::{Client, Server};
 use smbd_base::{EndId, EndLimits, Event, Message};
 use std::alloc::Global;
 use std::process::Abort;
 use std::test::Fail;
+use world_core::{Choice, Step, World, run_script};
 
 /// More turns than any of these runs has.
 const TURNS: usize = 100_000;
