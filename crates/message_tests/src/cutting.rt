@@ -6,7 +6,6 @@ use fragmenter::{Cutter, Piece};
 use smbd_base::Message;
 use std::alloc::Global;
 use std::process::Abort;
-use std::test::Fail;
 
 /// A message of so many bytes, cut into pieces of this size, has these: where each begins, how long it is, and how many
 /// bytes come after it.
@@ -50,39 +49,48 @@ const ROWS: &[Row<'static>] = &[
     },
 ];
 
+/// What is said where memory is wanting.
+const MEMORY: &str = "memory for a test";
+
 /// A cutter of so many bytes, none of which was given.
-fn cutter_of(rt: &impl Abort, alloc: Global, bytes: usize, payload: u32) -> Result<Cutter, Fail> {
-    let message = Message::of_bytes(vec![in alloc; 7; bytes]?)?;
+fn cutter_of(rt: &impl Abort, alloc: Global, bytes: usize, payload: u32) -> Cutter {
+    let bytes = vec![in alloc; 7; bytes].expect(rt, MEMORY);
+    let message = Message::of_bytes(bytes).expect(rt, MEMORY);
     assert!(rt; !message.is_empty() && message.len() < 1 << 32 && payload >= 104);
-    Ok(Cutter::start(message, payload))
+    Cutter::start(message, payload)
+}
+
+/// What a cutter shows before it gives its next piece, that piece, and how many bytes are left then.
+fn give(cutter: &mut Cutter) -> (u32, Option<Piece>, Option<Piece>, u32) {
+    let (rest, shown) = (cutter.rest(), cutter.peek());
+    (rest, shown, cutter.next(), cutter.rest())
+}
+
+/// Has the cutter give each piece of the row, and then none.
+fn give_all(rt: &impl Abort, cutter: &mut Cutter, pieces: &[(u32, u32, u32)]) {
+    for (from, length, remaining) in pieces {
+        let piece = Some(Piece {
+            from: *from,
+            length: *length,
+            remaining: *remaining,
+        });
+        let given = give(cutter);
+        assert_eq!(rt; given, (given.0, piece, piece, *remaining));
+        assert_eq!(rt;
+            u64::from(given.0),
+            u64::from(*length) + u64::from(*remaining)
+        );
+    }
+    for _ in 0..2 {
+        assert_eq!(rt; give(cutter), (0, None, None, 0));
+    }
 }
 
 #[test]
-fn gives_each_piece_and_then_none(rt: HostRuntime) -> Result<(), Fail> {
+fn gives_each_piece_and_then_none(rt: HostRuntime) {
     for row in ROWS {
-        let bytes = row.bytes;
-        let mut cutter = cutter_of(&rt, rt.alloc(), bytes, row.payload)?;
-        for (from, length, remaining) in row.pieces {
-            let piece = Some(Piece {
-                from: *from,
-                length: *length,
-                remaining: *remaining,
-            });
-            assert_eq!(rt;
-                cutter.rest() as usize,
-                bytes - *from as usize,
-                "{bytes} bytes"
-            );
-            assert_eq!(rt; cutter.peek(), piece, "{bytes} bytes");
-            assert_eq!(rt; cutter.next(), piece, "{bytes} bytes");
-            assert_eq!(rt; cutter.rest(), *remaining, "{bytes} bytes");
-        }
-        for _ in 0..2 {
-            assert_eq!(rt; cutter.peek(), None, "{bytes} bytes");
-            assert_eq!(rt; cutter.next(), None, "{bytes} bytes");
-            assert_eq!(rt; cutter.rest(), 0, "{bytes} bytes");
-        }
-        assert_eq!(rt; cutter.message().len(), bytes);
+        let mut cutter = cutter_of(&rt, rt.alloc(), row.bytes, row.payload);
+        give_all(&rt, &mut cutter, row.pieces);
+        assert_eq!(rt; cutter.message().len(), row.bytes);
     }
-    Ok(())
 }

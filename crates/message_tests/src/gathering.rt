@@ -3,9 +3,9 @@
 ghost use Rattle.std.specs.Prelude.{◌<◌, ◌≤◌, length};
 
 use reassembly::{Broken, Gather, GatherFault, gathered_pieces_split, split_pieces_are_gathered};
-use std::alloc::{AllocError, Global};
+use smbd_base::Message;
+use std::alloc::Global;
 use std::process::Abort;
-use std::test::Fail;
 
 /// A run of so many bytes, each of them this one.
 #[derive(Clone, Copy, Debug)]
@@ -47,53 +47,60 @@ const fn refused(piece: Run, remaining: u32, fault: GatherFault, left: u64) -> S
     }
 }
 
-fn bytes_of(alloc: Global, runs: &[Run]) -> Result<Vec<u8>, AllocError> {
+/// What is said where memory is wanting.
+const MEMORY: &str = "memory for a test";
+
+fn bytes_of(rt: &impl Abort, alloc: Global, runs: &[Run]) -> Vec<u8> {
     let mut bytes = Vec::new(alloc);
     for run in runs {
-        bytes.extend_from_slice(&vec![in alloc; run.1; run.0]?)?;
+        let part = vec![in alloc; run.1; run.0].expect(rt, MEMORY);
+        bytes.extend_from_slice(&part).expect(rt, MEMORY);
     }
-    Ok(bytes)
+    bytes
+}
+
+/// Whether a gatherer's answer is the expected one.
+fn is_answer(
+    rt: &impl Abort,
+    alloc: Global,
+    answer: &Result<Option<Message>, GatherFault>,
+    expected: Result<Option<&[Run]>, GatherFault>,
+) -> bool {
+    match (answer, expected) {
+        (Ok(Some(message)), Ok(Some(runs))) => {
+            message.bytes() == bytes_of(rt, alloc, runs).as_slice()
+        }
+        (Ok(None), Ok(None)) => true,
+        (Err(fault), Err(expected)) => *fault == expected,
+        _ => false,
+    }
+}
+
+/// Whether `fault` told before what `add` then answered: the misfit, or none where it fits or an earlier piece didn't.
+fn was_told(misfit: Option<Broken>, answer: &Result<Option<Message>, GatherFault>) -> bool {
+    match answer {
+        Ok(_) => misfit.is_none(),
+        Err(GatherFault::Failed(_)) => true,
+        Err(fault) => misfit.map(GatherFault::from) == Some(*fault),
+    }
 }
 
 /// Gives each piece in turn to a new gatherer.
-fn follow(
-    rt: &impl Abort,
-    alloc: Global,
-    name: &str,
-    max: u32,
-    steps: &[Step<'_>],
-) -> Result<(), Fail>
+fn follow(rt: &impl Abort, alloc: Global, name: &str, max: u32, steps: &[Step<'_>])
     requires least { 131072 ≤ max }
     requires most { max ≤ 1048576 }
 {
-    let mut gather = Gather::open(alloc, max)?;
+    let mut gather = Gather::open(alloc, max).expect(rt, MEMORY);
     assert_eq!(rt; gather.left(), 0);
     for step in steps {
-        let piece = bytes_of(alloc, &[step.piece])?;
+        let piece = bytes_of(rt, alloc, &[step.piece]);
         assert!(rt; !piece.is_empty());
         let misfit = gather.fault(&piece, step.remaining);
-        match (gather.add(&piece, step.remaining), step.answer) {
-            (Ok(Some(message)), Ok(Some(runs))) => {
-                assert_eq!(rt; misfit, None, "{name}");
-                assert!(rt;
-                    message.bytes() == bytes_of(alloc, runs)?.as_slice(),
-                    "{name}"
-                );
-            }
-            (Ok(None), Ok(None)) => assert_eq!(rt; misfit, None, "{name}"),
-            (Err(fault), Err(expected)) => {
-                assert_eq!(rt; fault, expected, "{name}");
-                let failed = matches!(fault, GatherFault::Failed(_));
-                assert!(rt;
-                    failed || misfit.map(GatherFault::from) == Some(fault),
-                    "{name}"
-                );
-            }
-            _ => panic!(rt; "{name}: another answer"),
-        }
+        let answer = gather.add(&piece, step.remaining);
+        assert!(rt; is_answer(rt, alloc, &answer, step.answer), "{name}");
+        assert!(rt; was_told(misfit, &answer), "{name}");
         assert_eq!(rt; gather.left(), step.left, "{name}");
     }
-    Ok(())
 }
 
 #[test]
@@ -103,7 +110,7 @@ fn laws_hold(_rt: HostRuntime) {
 }
 
 #[test]
-fn makes_messages(rt: HostRuntime) -> Result<(), Fail> {
+fn makes_messages(rt: HostRuntime) {
     let rows: [(&str, u32, &[Step<'_>]); 6] = [
         (
             "three pieces",
@@ -155,13 +162,12 @@ fn makes_messages(rt: HostRuntime) -> Result<(), Fail> {
     ];
     for (name, max, steps) in rows {
         assert!(rt; 131_072 <= max && max <= 1_048_576);
-        follow(&rt, rt.alloc(), name, max, steps)?;
+        follow(&rt, rt.alloc(), name, max, steps);
     }
-    Ok(())
 }
 
 #[test]
-fn refuses_what_does_not_fit(rt: HostRuntime) -> Result<(), Fail> {
+fn refuses_what_does_not_fit(rt: HostRuntime) {
     let total = |found| GatherFault::Total {
         expected: 1_660,
         found,
@@ -237,7 +243,6 @@ fn refuses_what_does_not_fit(rt: HostRuntime) -> Result<(), Fail> {
     ];
     for (name, max, steps) in rows {
         assert!(rt; 131_072 <= max && max <= 1_048_576);
-        follow(&rt, rt.alloc(), name, max, steps)?;
+        follow(&rt, rt.alloc(), name, max, steps);
     }
-    Ok(())
 }
