@@ -9,10 +9,10 @@ use Rattle.smbd_base.specs.declared.faults.TakeFault.{TakeFault}
 use Rattle.smbd_base.specs.Limits.{Limits, IsLawful}
 use Rattle.smbd_base.specs.Grant.{credits_in}
 use Rattle.smbd_base.specs.Pieces.{Piece}
-use Rattle.smbd_base.specs.Counts.{frames_taken, credits_earned, credits_held, receives_outstanding, receives_grantable, is_silent, is_unheard, is_early, is_out_of_turn, peer_of}
+use Rattle.smbd_base.specs.Counts.{frames_sent, frames_taken, credits_earned, credits_held, receives_outstanding, receives_grantable, is_silent, is_unheard, is_early, is_out_of_turn, peer_of}
 use Rattle.smbd_base.specs.History.{opening_frame, peer_opening, data_frame_due, pieces_waiting, is_response_owed, is_cut, is_new, is_version_fault, is_server, is_version_refused, is_closed, is_post_due, is_opening, is_agreed, is_ready, sends, MayFollow, IsLegal}
 use Rattle.smbd_base.specs.NegotiateMessages.{Request, request_fields, response_bytes, answer_to, refusing_response}
-use Rattle.smbd_base.specs.Balance.{IsBalanced, receives_due}
+use Rattle.smbd_base.specs.Balance.{IsBalanced, IsNeverFull, receives_due}
 use Rattle.smbd_base.proofs.FrameLaws.{credits_in-frame_bytes}
 use Rattle.smbd_base.proofs.NegotiationLaws.{credits_in-response_bytes, fits-answer}
 use Rattle.smbd_base.proofs.Inversion.{Emits, CanTake, emits, posts, both, sending_parts, ready_parts, out_of_turn}
@@ -224,3 +224,24 @@ pub balanced : (side : EndId) (limits : Limits) (past : List Event) → IsLawful
 balanced side limits [] lawful legal opened = absurd cc
 balanced side limits (e ∷ []) lawful legal opened = first side limits e lawful legal.0
 balanced side limits (e ∷ e' ∷ past) lawful legal opened = one_more side limits e (e' ∷ past) lawful legal.0 (balanced side limits (e' ∷ past) lawful legal.1 refl) refl
+
+-- ---- what is held, where it is not at its most
+
+held_by : (turn : Bool) (held earned sent grant : ℕ) → held + sent ≡ earned → cond turn held (min 65535 (held + grant)) < 65535
+    → cond turn held (min 65535 (held + grant)) + sent ≡ cond turn earned (earned + grant)
+held_by true held earned sent grant all small = all
+held_by false held earned sent grant all small = omega arith
+
+pub held_earned : (side : EndId) (limits : Limits) (past : List Event) → IsLawful limits → IsLegal side limits past → IsNeverFull side past
+    → credits_held side past + frames_sent past ≡ credits_earned side past
+held_earned side limits [] lawful legal small = refl
+held_earned side limits (Post n ∷ past) lawful legal small = held_earned side limits past lawful legal.1 small.1
+held_earned side limits (Submit m ∷ past) lawful legal small = held_earned side limits past lawful legal.1 small.1
+held_earned side limits (Emit f ∷ past) lawful legal small =
+    let e = emits side limits past f legal.0 in
+    let one = holds_one side limits past f (balanced side limits past lawful legal.1 e.going.opened) e in
+    omega (arith, one, held_earned side limits past lawful legal.1 small.1)
+held_earned side limits (Take f ∷ past) lawful legal small =
+    held_by (is_out_of_turn side past) (credits_held side past) (credits_earned side past) (frames_sent past)
+    (credits_in (peer_of side) (is_unheard past) f) (held_earned side limits past lawful legal.1 small.1) small.0
+held_earned side limits (Cut ∷ past) lawful legal small = held_earned side limits past lawful legal.1 small.1

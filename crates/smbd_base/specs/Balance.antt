@@ -1,5 +1,5 @@
 -- What the counts of a legal history have in common (MS-SMBD 3.1.1). A past is a list of events, the newest one first.
-use Rattle.std.specs.Prelude.{◌≡◌, ℕ, ◌+◌, ◌≤◌, true, false, List, if◌then◌else◌}
+use Rattle.std.specs.Prelude.{◌≡◌, ℕ, ◌+◌, ◌<◌, ◌≤◌, true, false, List, [], ◌∷◌, if◌then◌else◌}
 use Rattle.smbd_base.specs.declared.end_id.EndId.{EndId}
 use Rattle.smbd_base.specs.declared.event.Event.{Event}
 use Rattle.smbd_base.specs.Limits.{Limits}
@@ -27,3 +27,8 @@ pub record IsBalanced (side : EndId) (limits : Limits) (past : List Event) : Typ
   pub silent_held : is_silent past ≡ true → 1 ≤ credits_held side past
   -- the first frame used a receive
   pub heard_taken : is_unheard past ≡ false → is_closed side limits past ≡ false → 1 ≤ frames_taken side past
+
+-- at no moment the end held 65,535 credits, which is as many as it can
+abbrev pub IsNeverFull : EndId → List Event → Type 0
+IsNeverFull side [] = Unit {0}
+IsNeverFull side (e ∷ past) = (credits_held side (e ∷ past) < 65535) × IsNeverFull side past

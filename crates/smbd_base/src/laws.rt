@@ -1,12 +1,13 @@
 //! Laws of histories. Each is the contract of a function that does nothing.
 
-ghost use Rattle.std.specs.Prelude.{◌≡◌, false, ◌++◌, ◌∷◌, List, ℕ, option_to_list};
+ghost use Rattle.std.specs.Prelude.{◌≡◌, false, ◌+◌, ◌++◌, ◌∷◌, List, ℕ, option_to_list};
 ghost use Rattle.smbd_base.specs.declared.end_id.EndId.{EndId as Side};
 ghost use Rattle.smbd_base.specs.declared.event.Event.{Event as Happening};
 ghost use Rattle.smbd_base.specs.declared.event.Event.TheVariants as events;
 ghost use Rattle.smbd_base.specs.declared.next.Next.TheVariants as due;
 ghost use Rattle.smbd_base.specs.Limits.{Limits, IsLawful};
-ghost use Rattle.smbd_base.specs.Balance.{IsBalanced};
+ghost use Rattle.smbd_base.specs.Balance.{IsBalanced, IsNeverFull};
+ghost use Rattle.smbd_base.specs.Counts.{credits_earned, credits_held, frames_sent};
 ghost use Rattle.smbd_base.specs.Delivery.{messages_delivered, message_brought};
 ghost use Rattle.smbd_base.specs.History.{next_event, is_new, MayFollow, IsLegal};
 
@@ -15,6 +16,12 @@ ghost use Rattle.smbd_base.specs.History.{next_event, is_new, MayFollow, IsLegal
 pub fn legal_histories_balance()
     ensures { (side : Side) (limits : Limits) (past : List Happening) → IsLawful limits → IsLegal side limits past
         → is_new past ≡ false → IsBalanced side limits past }
+{}
+
+/// What an end holds is just what it earned, less what it sent, unless at some moment it held as many credits as it can.
+pub fn held_credits_are_earned_and_not_sent()
+    ensures { (side : Side) (limits : Limits) (past : List Happening) → IsLawful limits → IsLegal side limits past
+        → IsNeverFull side past → credits_held side past + frames_sent past ≡ credits_earned side past }
 {}
 
 /// What comes next may follow.

@@ -35,7 +35,8 @@ pub use faults::{Broken, FrameFault, NegotiateFault, SubmitFault, TakeFault};
 pub use frame::Frame;
 pub use frame_laws::{written_frames_are_read, written_frames_grant, written_lengths};
 pub use laws::{
-    frames_deliver_what_they_end, legal_histories_balance, next_events_may_follow, posts_are_apart,
+    frames_deliver_what_they_end, held_credits_are_earned_and_not_sent, legal_histories_balance,
+    next_events_may_follow, posts_are_apart,
 };
 pub use limits::{EndLimits, LimitFault};
 pub use message::Message;
