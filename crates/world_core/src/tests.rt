@@ -11,6 +11,7 @@ use std::process::Abort;
 use std::test::Fail;
 
 mod long;
+mod very_long;
 
 /// What is said where memory is wanting.
 const MEMORY: &str = "memory for a test";
