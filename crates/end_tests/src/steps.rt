@@ -1,4 +1,6 @@
+mod long;
 mod negotiation;
+mod sizes;
 
 use connection_core::{Agreed, End, Next, SubmitFault, TakeFault};
 use smbd_base::{Broken, EndId, EndLimits, Frame, Message, NegotiateFault, NoMemory};

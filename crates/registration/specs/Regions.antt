@@ -43,21 +43,21 @@ descriptor_of_page token len = record { offset = 4096 * token.page; token = numb
 abbrev pub next_token : ℕ → List PageState → PageToken
 next_token page pages = record { page = page; generation = (page_at page pages).generation + 1 }
 
-abbrev pub issued : PageToken → ℕ → Issue → Register
-issued token len issues.Done = registers.Registered (descriptor_of_page token len)
-issued token len (issues.Present other) = registers.Unissued token (issues.Present other)
-issued token len issues.Busy = registers.Unissued token issues.Busy
-issued token len (issues.Again seen found) = registers.Unissued token (issues.Again seen found)
+abbrev pub answer_of_issue : PageToken → ℕ → Issue → Register
+answer_of_issue token len issues.Done = registers.Registered (descriptor_of_page token len)
+answer_of_issue token len (issues.Present other) = registers.Unissued token (issues.Present other)
+answer_of_issue token len issues.Busy = registers.Unissued token issues.Busy
+answer_of_issue token len (issues.Again seen found) = registers.Unissued token (issues.Again seen found)
 
 -- a page that can be loaded is registered where no record is in the way
-abbrev pub loaded : ℕ → Option Listed → Load → Register
-loaded len place (loads.Loaded token) = issued token len (issue_answer place)
-loaded len place (loads.Live token) = registers.Live token
-loaded len place loads.Busy = registers.Busy
-loaded len place loads.Spent = registers.Spent
+abbrev pub answer_of_load : ℕ → Option Listed → Load → Register
+answer_of_load len place (loads.Loaded token) = answer_of_issue token len (issue_answer place)
+answer_of_load len place (loads.Live token) = registers.Live token
+answer_of_load len place loads.Busy = registers.Busy
+answer_of_load len place loads.Spent = registers.Spent
 
 abbrev pub register_answer : ℕ → ℕ → RegionState → Register
-register_answer page len s = loaded len (listed_at page s.table) (load_answer page (page_at page s.pages))
+register_answer page len s = answer_of_load len (listed_at page s.table) (load_answer page (page_at page s.pages))
 
 -- what each answer of a registration leaves
 abbrev pub LeavesRegistered : ℕ → Right → List ℕ → RegionState → RegionState → Register → Type 0
@@ -70,23 +70,23 @@ LeavesRegistered page right bytes old new registers.Spent = new ≡ old
 LeavesRegistered page right bytes old new (registers.Unissued token issue) =
     IsPoolStep (events.Load (next_token page old.pages) right bytes) old.pages new.pages × (new.table ≡ old.table)
 
-abbrev pub unloaded : Access → Release
-unloaded accesses.Done = releases.Released
-unloaded accesses.Stale = releases.Withdrawn accesses.Stale
-unloaded accesses.WrongRight = releases.Withdrawn accesses.WrongRight
-unloaded accesses.Worn = releases.Withdrawn accesses.Worn
-unloaded accesses.Busy = releases.Withdrawn accesses.Busy
+abbrev pub answer_of_unload : Access → Release
+answer_of_unload accesses.Done = releases.Released
+answer_of_unload accesses.Stale = releases.Withdrawn accesses.Stale
+answer_of_unload accesses.WrongRight = releases.Withdrawn accesses.WrongRight
+answer_of_unload accesses.Worn = releases.Withdrawn accesses.Worn
+answer_of_unload accesses.Busy = releases.Withdrawn accesses.Busy
 
 -- a page whose record can be withdrawn is released where it is loaded under the token
-abbrev pub withdrawn : Access → Withdraw → Release
-withdrawn access (withdrawals.Done entry) = unloaded access
-withdrawn access withdrawals.Unknown = releases.Unknown
-withdrawn access withdrawals.Stale = releases.Stale
-withdrawn access (withdrawals.Busy readers) = releases.Busy readers
-withdrawn access (withdrawals.Again seen found) = releases.Again seen found
+abbrev pub answer_of_withdraw : Access → Withdraw → Release
+answer_of_withdraw access (withdrawals.Done entry) = answer_of_unload access
+answer_of_withdraw access withdrawals.Unknown = releases.Unknown
+answer_of_withdraw access withdrawals.Stale = releases.Stale
+answer_of_withdraw access (withdrawals.Busy readers) = releases.Busy readers
+answer_of_withdraw access (withdrawals.Again seen found) = releases.Again seen found
 
 abbrev pub release_answer : PageToken → RegionState → Release
-release_answer token s = withdrawn (unload_answer token (page_at token.page s.pages)) (withdraw_answer token s.table)
+release_answer token s = answer_of_withdraw (unload_answer token (page_at token.page s.pages)) (withdraw_answer token s.table)
 
 -- what each answer of a release leaves; out is the buffer that it was lent
 abbrev pub LeavesReleased : PageToken → RegionState → RegionState → List ℕ → List ℕ → Release → Type 0

@@ -11,6 +11,7 @@ use std::test::Fail;
 use world_core::{Choice, Step, World, run_script};
 
 mod long;
+mod very_long;
 
 /// What is said where memory is wanting.
 const MEMORY: &str = "memory for a test";
