@@ -1,0 +1,4 @@
+pub mod Messages
+pub mod Runs
+pub mod WorkedMessages
+pub mod WorkedCopies
