@@ -1,12 +1,12 @@
 -- File requests and replies, laid out after SMB2 READ and WRITE (this project's own). Numbers are little-endian.
-use Rattle.std.specs.Prelude.{ℕ, zero, suc, ◌+◌, ◌*◌, ◌^◌, ◌==◌, nat_lt, nat_le, not, ◌||◌, ◌&&◌, Bool, true, false, Option, Some, None, Result, Ok, Err, List, [], ◌∷◌, ◌++◌, length, drop, if◌then◌else◌}
+use Rattle.std.specs.Prelude.{◌≡◌, ℕ, zero, suc, ◌+◌, ◌*◌, ◌^◌, ◌==◌, nat_lt, nat_le, not, ◌||◌, ◌&&◌, Bool, true, false, Option, Some, None, Result, Ok, Err, List, [], ◌∷◌, ◌++◌, length, drop, if◌then◌else◌}
 use Rattle.std.specs.Int.{w16, w32, w64, to_le_bytes}
 use Rattle.std.specs.List.{flat_map}
 use Rattle.smbd_base.specs.Fields.{u16_at, u32_at}
 use Rattle.buffer_descriptor.specs.declared.descriptor.Descriptor.{Descriptor}
 use Rattle.buffer_descriptor.specs.Descriptors.{end_of, fields_of, descriptor_bytes}
 use Rattle.file_messages.specs.declared.fault.FileFault.{FileFault}
-use Rattle.file_messages.specs.declared.fault.FileFault.TheVariants.{Short, Op, Channel, Count, Length, Overlap, Order}
+use Rattle.file_messages.specs.declared.fault.FileFault.TheVariants.{Short, Op, Channel, Count, Length, Overlap, Order, NoMemory}
 use Rattle.file_messages.specs.declared.message.Request.{Request}
 use Rattle.file_messages.specs.declared.message.Reply.{Reply}
 use Rattle.file_messages.specs.declared.message.Asked.{Asked}
@@ -120,6 +120,11 @@ request_fault bytes =
 abbrev pub request_of : List ℕ → Result Request FileFault
 request_of bytes = value_or_fault (request_fault bytes) (request_fields bytes)
 
+-- a refused request: its first fault, or want of memory where it has none
+abbrev pub RefusesRequest : List ℕ → FileFault → Type 0
+RefusesRequest bytes NoMemory = request_fault bytes ≡ None
+RefusesRequest bytes fault = request_fault bytes ≡ Some fault
+
 -- the one written form: the header, and what it carries
 abbrev pub header_bytes : ℕ → ℕ → ℕ → ℕ → ℕ → ℕ → List ℕ
 header_bytes op channel id offset len count =
@@ -171,10 +176,17 @@ fault_in_reply asked bytes =
 abbrev pub reply_of : Asked → List ℕ → Result Reply FileFault
 reply_of asked bytes = value_or_fault (fault_in_reply asked bytes) (reply_fields asked bytes)
 
--- the one written form
+-- a refused reply: its first fault, or want of memory where it has none
+abbrev pub RefusesReply : Asked → List ℕ → FileFault → Type 0
+RefusesReply asked bytes NoMemory = fault_in_reply asked bytes ≡ None
+RefusesReply asked bytes fault = fault_in_reply asked bytes ≡ Some fault
+
+-- the one written form: the header, and what it carries
+abbrev pub reply_header : Reply → List ℕ
+reply_header r = to_le_bytes w16 r.op ++ to_le_bytes w16 r.status ++ to_le_bytes w32 r.id ++ to_le_bytes w32 r.count
+
 abbrev pub reply_bytes : Reply → List ℕ
-reply_bytes r =
-    to_le_bytes w16 r.op ++ to_le_bytes w16 r.status ++ to_le_bytes w32 r.id ++ to_le_bytes w32 r.count ++ r.inline
+reply_bytes r = reply_header r ++ r.inline
 
 -- the reply of success to a request, with this count, and these bytes where it carries any
 abbrev pub success : Request → ℕ → List ℕ → Reply

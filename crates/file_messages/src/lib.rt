@@ -5,14 +5,21 @@
 //! `specs/`. Nothing here keeps a state.
 #![tactic(auto)]
 
+mod descriptors;
 mod fault;
 mod job;
 mod kind;
+mod layout;
 mod message;
+mod reading;
 mod worked;
+mod writing;
 
 pub use fault::{FileFault, ReplyFault};
 pub use job::{Completion, Job, Work, WorkResult};
 pub use kind::{Channel, CopyKind};
+pub use layout::{END, READ, REPLY, WRITE};
 pub use message::{Asked, Reply, Request};
+pub use reading::{read_reply, read_request, reply_fault, request_fault};
 pub use worked::{worked_copies, worked_messages};
+pub use writing::{request_header, write_reply, write_request};

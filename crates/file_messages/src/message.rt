@@ -1,5 +1,8 @@
 //! Requests and replies.
 
+ghost use Rattle.std.specs.Prelude.{◌≡◌};
+ghost use Rattle.file_messages.specs.Messages.{asked_by};
+
 use buffer_descriptor::Descriptors;
 use smbd_base::Message;
 
@@ -21,6 +24,20 @@ pub struct Request {
     pub descriptors: Descriptors,
     /// The bytes of a WRITE without registered pages, else none.
     pub inline: Message,
+}
+
+impl Request {
+    /// What its reply is to answer.
+    pub fn asked(&self) -> Asked
+        ensures { result ≡ asked_by self.now }
+    {
+        Asked {
+            op: self.op,
+            channel: self.channel,
+            id: self.id,
+            length: self.length,
+        }
+    }
 }
 
 /// A reply of a server (the layout is this project's own, after MS-SMB2 2.2.20 and 2.2.22).

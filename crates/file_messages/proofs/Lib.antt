@@ -1,0 +1,2 @@
+pub mod ListedDescriptors
+pub mod Faults
