@@ -1,2 +1,3 @@
 pub mod ListedDescriptors
 pub mod Faults
+pub mod WrittenMessages
