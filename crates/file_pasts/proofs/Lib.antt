@@ -6,3 +6,4 @@ pub mod InStep
 pub mod LoadsDue
 pub mod Owning
 pub mod Owned
+pub mod PutPageLaws

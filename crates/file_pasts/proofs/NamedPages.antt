@@ -17,7 +17,7 @@ named_at-none first page = by_test (nat_le first page) (nat_lt page first) refl 
   by_test false u p q = refl
 
 -- each descriptor of a page's loads names the page
-OnPage : ℕ → List Descriptor → Type 0
+unfoldable pub OnPage : ℕ → List Descriptor → Type 0
 OnPage page [] = Unit {0}
 OnPage page (d ∷ ds) = ((token_in d).page ≡ page) × OnPage page ds
 
@@ -37,7 +37,7 @@ on_page-loaded page Placed = tt
 on_page-loaded page (Unloaded bytes) = tt
 on_page-loaded page (Refused status) = tt
 
-on_page : (page : ℕ) (past : List ClientEvent) → OnPage page (descriptors_on page past)
+pub on_page : (page : ℕ) (past : List ClientEvent) → OnPage page (descriptors_on page past)
 unfolding OnPage
 on_page page [] = tt
 on_page page (Group bytes ∷ past) = on_page page past
@@ -48,7 +48,7 @@ on_page page (Gave work ∷ past) = on_page page past
 on_page page (Completed c ∷ past) = on_page-append page (descriptors_on page past) (loaded_by page c.result) (on_page page past) (on_page-loaded page c.result)
 on_page page (Received bytes ∷ past) = on_page page past
 
-on_page-at : (page : ℕ) (ds : List Descriptor) (k : ℕ) (d : Descriptor) → OnPage page ds → slice_get ds k ≡ Some d → (token_in d).page ≡ page
+pub on_page-at : (page : ℕ) (ds : List Descriptor) (k : ℕ) (d : Descriptor) → OnPage page ds → slice_get ds k ≡ Some d → (token_in d).page ≡ page
 unfolding OnPage
 on_page-at page [] k d a e = absurd (let b : ⊥ = cc in b)
 on_page-at page (x ∷ xs) zero d a e = let same : x ≡ d = cc in subst (λ (y : Descriptor). (token_in y).page ≡ page) same a.0

@@ -19,7 +19,8 @@ use Rattle.file_pasts.proofs.GroupLemmas.{AreShort-append, short_at, take_whole}
 use Rattle.file_pasts.proofs.Owning.{take-next}
 use Rattle.file_pasts.specs.InStep.{part_at, named_at, over}
 use Rattle.file_pasts.proofs.InStep.{length-parts, window}
-use Rattle.file_pasts.proofs.Owned.{OwnsPart, owned}
+use Rattle.file_pasts.specs.PutPages.{OwnsPart}
+use Rattle.file_pasts.proofs.Owned.{owned}
 
 -- ---- a step of a division
 
@@ -63,7 +64,7 @@ bit true = 1
 bit false = 0
 
 -- how many of so many groups, the first of them after j others, use the window v
-uses : ℕ → ℕ → ℕ → ℕ → ℕ
+pub uses : ℕ → ℕ → ℕ → ℕ → ℕ
 uses w v j zero = 0
 uses w v j (suc n) = bit (v == j % w) + uses w v (j + 1) n
 
@@ -102,7 +103,7 @@ uses-used w v j zero some below = let e : j + 0 ≡ j = omega arith in omega (ar
 uses-used w v j (suc n) some below =
     omega (arith, uses-used w v (j + 1) n some below, used-step w v j some below, ap (used w v) (let e : j + 1 + n ≡ j + suc n = omega arith in e))
 
-uses-turn : (w n : ℕ) → 0 < w → uses w (n % w) 0 n ≡ n / w
+pub uses-turn : (w n : ℕ) → 0 < w → uses w (n % w) 0 n ≡ n / w
 unfolding used bit
 uses-turn w n some =
     let none : nat_lt (n % w) (n % w) ≡ false = grind (arith, nat_tests) in
@@ -119,18 +120,18 @@ uses-turn w n some =
 
 -- ---- the parts of a page by the groups
 
-pl : ℕ → ℕ → ℕ → List (List ℕ) → List (List ℕ)
+unfoldable pub pl : ℕ → ℕ → ℕ → List (List ℕ) → List (List ℕ)
 pl w q j [] = []
 pl w q j (g ∷ gs) = part_on w q j g ++ pl w q (j + 1) gs
 
-pl-append : (w q j : ℕ) (gs : List (List ℕ)) (b : List ℕ) → pl w q j (gs ++ b ∷ []) ≡ pl w q j gs ++ part_on w q (j + length gs) b
+pub pl-append : (w q j : ℕ) (gs : List (List ℕ)) (b : List ℕ) → pl w q j (gs ++ b ∷ []) ≡ pl w q j gs ++ part_on w q (j + length gs) b
 unfolding pl
 pl-append w q j [] b = append-nil (part_on w q j b) ∙ ap (λ (k : ℕ). part_on w q k b) (let e : j ≡ j + 0 = omega arith in e)
 pl-append w q j (g ∷ gs) b =
     ap (λ (t : List (List ℕ)). part_on w q j g ++ t) (pl-append w q (j + 1) gs b ∙ ap (λ (k : ℕ). pl w q (j + 1) gs ++ part_on w q k b) (let e : j + 1 + length gs ≡ j + suc (length gs) = omega arith in e))
     ∙ sym (append_assoc (part_on w q j g) (pl w q (j + 1) gs) (part_on w q (j + suc (length gs)) b))
 
-parts-is : (w q : ℕ) (past : List ClientEvent) → parts_on w q past ≡ pl w q 0 (groups_in past)
+pub parts-is : (w q : ℕ) (past : List ClientEvent) → parts_on w q past ≡ pl w q 0 (groups_in past)
 unfolding pl
 parts-is w q [] = refl
 parts-is w q (Group bytes ∷ past) =
@@ -162,7 +163,7 @@ pl-at w q (suc n) j (x ∷ gs) g part e h =
     ∙ pl-at w q n (j + 1) gs g part e (ap (λ (k : ℕ). part_on w q k g) (let z : j + 1 + n ≡ j + suc n = omega arith in z) ∙ h)
 
 -- each of so many groups is whole
-Wholes : List (List ℕ) → Type 0
+pub Wholes : List (List ℕ) → Type 0
 Wholes [] = Unit {0}
 Wholes (g ∷ gs) = (length g ≡ 65536) × Wholes gs
 
@@ -182,7 +183,7 @@ whole-part w q j g e = by_test (q / 16 == j % w) (slice_get (pages_of g) (q % 16
   by_test true None h = absurd (omega (arith, beyond (pages_of g) (q % 16) h, size))
   by_test false o h = refl
 
-length-pl : (w q j : ℕ) (gs : List (List ℕ)) → Wholes gs → length (pl w q j gs) ≡ uses w (q / 16) j (length gs)
+pub length-pl : (w q j : ℕ) (gs : List (List ℕ)) → Wholes gs → length (pl w q j gs) ≡ uses w (q / 16) j (length gs)
 unfolding pl uses Wholes
 length-pl w q j [] a = refl
 length-pl w q j (g ∷ gs) a = omega (arith, length-append (part_on w q j g) (pl w q (j + 1) gs), whole-part w q j g a.0, length-pl w q (j + 1) gs a.1)
@@ -215,7 +216,7 @@ in_turn s (Gave work ∷ past) p = in_turn s past p.1
 in_turn s (Completed c ∷ past) p = in_turn s past p.1
 in_turn s (Received bytes ∷ past) p = let i = in_turn s past p.1 in (i.0, i.1)
 
-all_short : (s : Setup) (past : List ClientEvent) → IsPut s past → AreShort (groups_in past)
+pub all_short : (s : Setup) (past : List ClientEvent) → IsPut s past → AreShort (groups_in past)
 all_short s [] p = tt
 all_short s (Group bytes ∷ past) p = AreShort-append (groups_in past) bytes (all_short s past p.1) p.0.2
 all_short s (End ∷ past) p = all_short s past p.1
@@ -239,13 +240,13 @@ wholes_take zero gs a = tt
 wholes_take (suc n) [] a = tt
 wholes_take (suc n) (g ∷ gs) a = (a.0, wholes_take n gs a.1)
 
-place_within : (xs : List (List ℕ)) (i : ℕ) (y : List ℕ) → slice_get xs i ≡ Some y → i < length xs
+pub place_within : (xs : List (List ℕ)) (i : ℕ) (y : List ℕ) → slice_get xs i ≡ Some y → i < length xs
 place_within [] i y k = absurd (let b : ⊥ = cc in b)
 place_within (z ∷ zs) zero y k = omega arith
 place_within (z ∷ zs) (suc i) y k = omega (arith, place_within zs i y k)
 
 -- the groups before one are whole
-wholes_before : (s : Setup) (past : List ClientEvent) (n : ℕ) (g : List ℕ) → IsPut s past → slice_get (groups_in past) n ≡ Some g → Wholes (take n (groups_in past))
+pub wholes_before : (s : Setup) (past : List ClientEvent) (n : ℕ) (g : List ℕ) → IsPut s past → slice_get (groups_in past) n ≡ Some g → Wholes (take n (groups_in past))
 wholes_before s [] n g p e = absurd (let b : ⊥ = cc in b)
 wholes_before s (Group bytes ∷ past) n g p e =
     let few : n < length (groups_in past ++ bytes ∷ []) = place_within (groups_in past ++ bytes ∷ []) n g e in

@@ -16,7 +16,8 @@ use Rattle.file_pasts.specs.PutDue.{IsPut, jobs_due, parts_on, part_on}
 use Rattle.file_pasts.specs.PutTokens.{IsNextToken, HasPoolTokens}
 use Rattle.file_pasts.specs.InStep.{is_load_on, is_unload_on, one_if, count, count_open, over}
 use Rattle.file_pasts.proofs.InStep.{count-append, count_open-without, given-due, in_step}
-use Rattle.file_pasts.proofs.Owning.{load_bytes, bytes_of, bytes_of-append, length-bytes_of, get-take, carries-parts}
+use Rattle.file_pasts.proofs.Owning.{bytes_loaded-append, length-bytes_loaded, get-take, carries-parts}
+use Rattle.file_pasts.specs.PutPages.{load_bytes, bytes_loaded, OwnsPart}
 
 -- ---- open Loads of a page carry this part
 
@@ -70,11 +71,6 @@ carry-none page x (job ∷ later) e =
       by_work (Unload t) z = tt
 
 -- ---- loads and the parts that they carry
-
-pub record OwnsPart (parts : List (List ℕ)) (page j : ℕ) (d : Descriptor) : Type 0 where
-  pub part : List ℕ
-  pub at : slice_get parts j ≡ Some part
-  pub same : d ≡ descriptor_of_load page j (length part)
 
 pub record Owned (page : ℕ) (descriptors : List Descriptor) (parts : List (List ℕ)) (jobs : List Job) : Type 0 where
   pub own : (j : ℕ) (d : Descriptor) → slice_get descriptors j ≡ Some d → OwnsPart parts page j d
@@ -145,23 +141,23 @@ owned-completed page n ds parts jobs past work result o ds_is fits token opened 
 
 -- the job that is given next carries the next part of its page
 given-carries : (w page : ℕ) (work : Work) (past : List ClientEvent) → IsPut (over w) (Gave work ∷ past) → Carries page (slice_get (parts_on w page past) (length (descriptors_on page past))) work
-unfolding bytes_of load_bytes count one_if is_load_on
+unfolding bytes_loaded load_bytes count one_if is_load_on
 given-carries w page (Load q r bytes) past p = λ here.
     let s = in_step w page past p.1 in
     let t = in_step w page (Gave (Load q r bytes) ∷ past) p in
     let on : (q == page) ≡ true = grind (arith, nat_tests) in
-    let split : bytes_of page (jobs_due w past) ≡ bytes_of page (jobs_given past) ++ bytes ∷ bytes_of page t.rest =
-    ap (bytes_of page) (t.given ∙ append_assoc (jobs_given past) (Load q r bytes ∷ []) t.rest)
-    ∙ bytes_of-append page (jobs_given past) (Load q r bytes ∷ t.rest)
-    ∙ ap (λ (b : Bool). bytes_of page (jobs_given past) ++ (cond b (bytes ∷ []) [] ++ bytes_of page t.rest)) on in
-    let got : slice_get (parts_on w page past) (length (bytes_of page (jobs_given past))) ≡ Some bytes =
-    get-take (count (is_load_on page) (jobs_due w past)) (parts_on w page past) (bytes_of page (jobs_given past)) (bytes_of page t.rest) bytes (sym (carries-parts w page past p.1) ∙ split) in
+    let split : bytes_loaded page (jobs_due w past) ≡ bytes_loaded page (jobs_given past) ++ bytes ∷ bytes_loaded page t.rest =
+    ap (bytes_loaded page) (t.given ∙ append_assoc (jobs_given past) (Load q r bytes ∷ []) t.rest)
+    ∙ bytes_loaded-append page (jobs_given past) (Load q r bytes ∷ t.rest)
+    ∙ ap (λ (b : Bool). bytes_loaded page (jobs_given past) ++ (cond b (bytes ∷ []) [] ++ bytes_loaded page t.rest)) on in
+    let got : slice_get (parts_on w page past) (length (bytes_loaded page (jobs_given past))) ≡ Some bytes =
+    get-take (count (is_load_on page) (jobs_due w past)) (parts_on w page past) (bytes_loaded page (jobs_given past)) (bytes_loaded page t.rest) bytes (sym (carries-parts w page past p.1) ∙ split) in
     let one : count (is_load_on page) (jobs_given past ++ Load q r bytes ∷ []) ≡ count (is_load_on page) (jobs_given past) + 1 =
     count-append (is_load_on page) (jobs_given past) (Load q r bytes ∷ []) ∙ ap (λ (b : Bool). count (is_load_on page) (jobs_given past) + (one_if b + 0)) on in
-    let place : length (bytes_of page (jobs_given past)) ≡ length (descriptors_on page past) =
+    let place : length (bytes_loaded page (jobs_given past)) ≡ length (descriptors_on page past) =
     omega (
       arith,
-      length-bytes_of page (jobs_given past),
+      length-bytes_loaded page (jobs_given past),
       one,
       s.unloads,
       s.loads,

@@ -6,6 +6,7 @@ pub mod Groups
 pub mod InStep
 pub mod PutLaws
 pub mod PutTokens
+pub mod PutPages
 pub mod WorkedPuts
 pub mod WorkedPages
 pub mod WorkedServers

@@ -9,5 +9,8 @@
 mod put_laws;
 mod worked;
 
-pub use put_laws::puts_ask_for_their_bytes;
+pub use put_laws::{
+    loads_carry_their_parts, pages_go_in_step, puts_ask_for_their_bytes, unloads_follow_replies,
+    writes_name_loaded_parts,
+};
 pub use worked::{worked_gets, worked_groups, worked_pages, worked_puts, worked_servers};
