@@ -1,3 +1,4 @@
 pub mod ListedDescriptors
 pub mod Faults
 pub mod WrittenMessages
+pub mod WrittenCopies

@@ -1,11 +1,12 @@
 -- Which requests and replies are written so that they are read back (this project's own).
-use Rattle.std.specs.Prelude.{◌≡◌, ℕ, ◌+◌, ◌^◌, ◌==◌, ◌<◌, ◌≤◌, ◌&&◌, true, false, Ok, List, [], ◌∷◌, length, ◌⊎◌}
+use Rattle.std.specs.Prelude.{◌≡◌, ℕ, ◌+◌, ◌^◌, ◌==◌, ◌<◌, ◌≤◌, ◌&&◌, Bool, true, false, Ok, List, [], ◌∷◌, length, ◌⊎◌}
 use Rattle.buffer_descriptor.specs.declared.descriptor.Descriptor.{Descriptor}
 use Rattle.file_messages.specs.declared.message.Request.{Request}
 use Rattle.file_messages.specs.declared.message.Reply.{Reply}
 use Rattle.file_messages.specs.declared.message.Asked.{Asked}
 use Rattle.file_messages.specs.Messages.{WRITE, READ, are_sound, sum_of_lengths, overlap, request_of, request_bytes, has_count, reply_of, reply_bytes}
-use Rattle.file_messages.specs.Runs.{inline_write, end_request}
+use Rattle.file_messages.specs.declared.kind.Channel.{Channel}
+use Rattle.file_messages.specs.Runs.{inline_write, end_request, put_requests, get_requests}
 
 -- id and offset fit their fields
 pub record HasPlace (id offset : ℕ) : Type 0 where
@@ -76,3 +77,24 @@ pub record Replies (asked : Asked) (r : Reply) : Type 0 where
 
 abbrev pub RepliesAreRead : Type 0
 RepliesAreRead = (asked : Asked) (r : Reply) → Replies asked r → reply_of asked (reply_bytes r) ≡ Ok r
+
+-- ---- the requests of a copy
+
+abbrev pub AllReadBack : List Request → Type 0
+AllReadBack [] = Unit {0}
+AllReadBack (r ∷ later) = IsReadBack r × AllReadBack later
+
+-- so few bytes that the ids of their requests and the generations of their pages fit their fields
+abbrev pub IsCopyable : List ℕ → Type 0
+IsCopyable bytes = length bytes < 2 ^ 39
+
+-- so many pages as a pool may have: a window at least, and no page past the 256th
+pub record IsPool (pages : ℕ) : Type 0 where
+  pub least : 16 ≤ pages
+  pub most : pages ≤ 256
+
+abbrev pub PutsAreRead : Type 0
+PutsAreRead = (channel : Channel) (pages : ℕ) (ended : Bool) (bytes : List ℕ) → IsPool pages → IsCopyable bytes → AllReadBack (put_requests channel pages ended bytes)
+
+abbrev pub GetsAreRead : Type 0
+GetsAreRead = (channel : Channel) (bytes : List ℕ) → IsCopyable bytes → AllReadBack (get_requests channel bytes)
