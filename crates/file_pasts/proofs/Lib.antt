@@ -7,3 +7,5 @@ pub mod LoadsDue
 pub mod Owning
 pub mod Owned
 pub mod PutPageLaws
+pub mod Lists
+pub mod ServerReplies

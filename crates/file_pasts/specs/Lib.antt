@@ -7,6 +7,7 @@ pub mod InStep
 pub mod PutLaws
 pub mod PutTokens
 pub mod PutPages
+pub mod ServerLaws
 pub mod WorkedPuts
 pub mod WorkedPages
 pub mod WorkedServers
