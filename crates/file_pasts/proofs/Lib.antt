@@ -9,3 +9,5 @@ pub mod Owned
 pub mod PutPageLaws
 pub mod Lists
 pub mod ServerReplies
+pub mod ServerJobs
+pub mod ServerGroups

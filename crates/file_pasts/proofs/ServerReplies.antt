@@ -1,7 +1,6 @@
 -- A server's replies are those of the run of which it was asked.
-use Rattle.std.proofs.Common.{◌≡◌, ◌⊎◌, inl, inr, ℕ, zero, suc, ◌+◌, ◌<◌, ◌≤◌, ◌==◌, not, ◌&&◌, ◌||◌, Bool, true, false, cond, Option, Some, None, option_map, Result, Ok, Err, List, [], ◌∷◌, ◌++◌, length, take, drop, map, refl, sym, ap, ◌∙◌, subst, add-one, length-append, arith}
+use Rattle.std.proofs.Common.{◌≡◌, ◌⊎◌, inl, inr, ℕ, zero, suc, ◌+◌, ◌≤◌, ◌==◌, not, Bool, true, false, cond, Option, Some, None, option_map, Result, Ok, Err, List, [], ◌∷◌, ◌++◌, length, take, map, refl, sym, ap, ◌∙◌, subst, add-one, length-append, arith}
 use Rattle.std.specs.Prelude.{slice_get}
-use mathlib.Core.List.{IsPrefix}
 use Rattle.file_messages.specs.declared.kind.CopyKind.{CopyKind}
 use Rattle.file_messages.specs.declared.fault.FileFault.{FileFault}
 use Rattle.file_messages.specs.declared.fault.FileFault.TheVariants.{Order}
@@ -13,7 +12,7 @@ use Rattle.file_messages.specs.declared.job.WorkResult.TheVariants.{Loaded, Fetc
 use Rattle.file_messages.specs.Messages.{request_of, request_bytes, success, refusal}
 use Rattle.file_messages.specs.Runs.{replies_to, reply_to, reply_to_read, bytes_read}
 use Rattle.file_messages.specs.Written.{IsReadBack, AllReadBack}
-use Rattle.file_pasts.specs.ServerDue.{ServerEvent, Asked, Filled, Gave, Completed, Replied, Stored, Requests, requests, replies, judged, judged_after, judgement, with_judged, is_out_of_turn, handled, first_status, standing_status, source_in_hand, source_for, wants_source, results, results_from, result_in_front, result_at, jobs_due, jobs_given, jobs_in_hand, status_of, status_in, read_reply, answer_of, answer_with, reply_if_handled, next_reply, IsServer}
+use Rattle.file_pasts.specs.ServerDue.{ServerEvent, Asked, Filled, Gave, Completed, Replied, Stored, Requests, requests, replies, judged, judgement, with_judged, is_out_of_turn, handled, first_status, standing_status, source_in_hand, source_for, wants_source, results, results_from, result_in_front, result_at, jobs_due, status_of, status_in, read_reply, answer_with, reply_if_handled, next_reply, IsServer}
 use Rattle.file_pasts.specs.ServerLaws.{messages_asked, IsDone, NothingRefused, FillsFrom, AsksFor, ServersReply}
 use Rattle.file_pasts.proofs.Lists.{within, take_one_more, get_of_front, get_in_front, get_of_map, front_of, prefix_before, last_mapped}
 
@@ -26,7 +25,7 @@ status-reply_to bytes r = by_op (r.op == 1) (r.op == 2) where
   by_op false true = refl
   by_op false false = refl
 
-first_status-front : (n : ℕ) (bytes : List ℕ) (run : List Request) → first_status (take n (map (reply_to bytes) run)) ≡ 0
+pub first_status-front : (n : ℕ) (bytes : List ℕ) (run : List Request) → first_status (take n (map (reply_to bytes) run)) ≡ 0
 first_status-front zero bytes run = refl
 first_status-front (suc n) bytes [] = refl
 first_status-front (suc n) bytes (r ∷ run) =
@@ -51,7 +50,7 @@ result-done n (Completed c ∷ past) r h e = by_test (c.number == n) e (λ (k : 
 result-done n (Replied q ∷ past) r h e = result-done n past r h e
 result-done n (Stored b ∷ past) r h e = result-done n past r h e
 
-results-done : (n : ℕ) (works : List Work) (past : List ServerEvent) (found : List WorkResult) → NothingRefused past → results_from n works past ≡ Some found → status_of found ≡ 0
+pub results-done : (n : ℕ) (works : List Work) (past : List ServerEvent) (found : List WorkResult) → NothingRefused past → results_from n works past ≡ Some found → status_of found ≡ 0
 results-done n [] past found h e = ap status_of (none found e) where
   none : (f : List WorkResult) → Some [] ≡ Some f → f ≡ []
   none f k = cc
@@ -141,7 +140,7 @@ serves-asked kind bytes run m past r at s (inr e) =
   both p q = cc
 
 -- the reply that is due is the reply to the request that is handled
-due_reply : (kind : CopyKind) (bytes : List ℕ) (run : List Request) (past : List ServerEvent) (r : Reply) → Serves kind bytes run past → NothingRefused past → next_reply kind past ≡ Some r
+pub due_reply : (kind : CopyKind) (bytes : List ℕ) (run : List Request) (past : List ServerEvent) (r : Reply) → Serves kind bytes run past → NothingRefused past → next_reply kind past ≡ Some r
     → (q : Request) × (handled kind past ≡ Some q) × (r ≡ reply_to bytes q)
 due_reply kind bytes run past r s n e = by_handled (handled kind past) refl e where
   standing : standing_status past ≡ 0
