@@ -11,3 +11,5 @@ pub mod Lists
 pub mod ServerReplies
 pub mod ServerJobs
 pub mod ServerGroups
+pub mod GetTokens
+pub mod GetLaw

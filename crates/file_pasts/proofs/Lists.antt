@@ -1,5 +1,5 @@
 -- Fronts of lists, and what stands at a place.
-use Rattle.std.proofs.Common.{◌≡◌, ℕ, zero, suc, ◌<◌, ◌≤◌, Some, option_map, List, [], ◌∷◌, ◌++◌, length, take, drop, map, refl, ap, ◌∙◌, arith}
+use Rattle.std.proofs.Common.{◌≡◌, ◌⊎◌, inl, inr, ℕ, zero, suc, ◌<◌, ◌≤◌, Some, option_map, List, [], ◌∷◌, ◌++◌, length, take, drop, map, refl, ap, ◌∙◌, arith}
 use Rattle.std.specs.Prelude.{slice_get}
 use mathlib.Core.List.{IsPrefix}
 use Rattle.std.proofs.lemmas.List.{take-append-drop}
@@ -62,3 +62,36 @@ last_mapped f (z ∷ zs) x (y ∷ ys) p =
     let e : z ∷ ((zs ++ x ∷ []) ++ p.0) ≡ f y ∷ map f ys = p.1 in
     let rest : (zs ++ x ∷ []) ++ p.0 ≡ map f ys = cc in
     last_mapped f zs x ys (p.0, rest)
+
+-- of a list with one more, what stands at a place is of the list, or the last
+pub get_last : {A : Type 0} (xs : List A) (y : A) (j : ℕ) (x : A) → slice_get (xs ++ y ∷ []) j ≡ Some x → (slice_get xs j ≡ Some x) ⊎ ((j ≡ length xs) × (x ≡ y))
+get_last [] y zero x e = inr (refl, (let h : x ≡ y = cc in h))
+get_last [] y (suc j) x e = absurd (let b : ⊥ = cc in b)
+get_last (z ∷ zs) y zero x e = inl e
+get_last (z ∷ zs) y (suc j) x e = by_case (get_last zs y j x e) where
+  by_case : (slice_get zs j ≡ Some x) ⊎ ((j ≡ length zs) × (x ≡ y)) → (slice_get zs j ≡ Some x) ⊎ ((suc j ≡ suc (length zs)) × (x ≡ y))
+  by_case (inl h) = inl h
+  by_case (inr h) = inr (ap suc h.0, h.1)
+
+pub got_of_map : {A B : Type 0} (f : A → B) (xs : List A) (n : ℕ) (y : B) → slice_get (map f xs) n ≡ Some y → (x : A) × (slice_get xs n ≡ Some x) × (y ≡ f x)
+got_of_map f [] n y e = absurd (let b : ⊥ = cc in b)
+got_of_map f (x ∷ xs) zero y e = (x, refl, (let h : y ≡ f x = cc in h))
+got_of_map f (x ∷ xs) (suc n) y e = got_of_map f xs n y e
+
+-- what is left from a place on begins with what stands there
+pub left_at : {A : Type 0} (n : ℕ) (xs : List A) (x : A) (rest : List A) → drop n xs ≡ x ∷ rest → (slice_get xs n ≡ Some x) × (drop (suc n) xs ≡ rest)
+left_at zero [] x rest e = absurd (let b : ⊥ = cc in b)
+left_at (suc n) [] x rest e = absurd (let b : ⊥ = cc in b)
+left_at zero (y ∷ ys) x rest e = ((let h : Some y ≡ Some x = cc in h), (let h : ys ≡ rest = cc in h))
+left_at (suc n) (y ∷ ys) x rest e = left_at n ys x rest e
+
+pub length_front : {A : Type 0} (n : ℕ) (xs : List A) → length (take n xs) ≤ length xs
+length_front zero xs = omega arith
+length_front (suc n) [] = omega arith
+length_front (suc n) (x ∷ xs) = omega (arith, length_front n xs)
+
+pub front_whole : {A : Type 0} (n : ℕ) (xs : List A) → length xs ≤ n → take n xs ≡ xs
+front_whole zero [] h = refl
+front_whole (suc n) [] h = refl
+front_whole zero (x ∷ xs) h = absurd (omega arith)
+front_whole (suc n) (x ∷ xs) h = ap (λ t. x ∷ t) (front_whole n xs (omega arith))

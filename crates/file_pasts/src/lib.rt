@@ -6,10 +6,12 @@
 //! is this project's own. Each function here is a law: it does nothing, and its contract is the law.
 #![tactic(auto)]
 
+mod get_laws;
 mod put_laws;
 mod server_laws;
 mod worked;
 
+pub use get_laws::gets_ask_for_their_bytes;
 pub use put_laws::{
     loads_carry_their_parts, pages_go_in_step, puts_ask_for_their_bytes, unloads_follow_replies,
     writes_name_loaded_parts,

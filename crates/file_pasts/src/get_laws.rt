@@ -1,0 +1,11 @@
+//! Laws of the client of a get.
+
+ghost use Rattle.file_pasts.specs.GetLaws.{GetsAsk, RegisteredGetsAsk};
+
+/// A get asks for its bytes in order: where the replies that were handed in are a front of those of a copy, what it sent is a
+/// front of the READs of that copy and its END. Over registered pages this holds where the pool gives each load of a page the
+/// generation after that of the load before.
+pub fn gets_ask_for_their_bytes()
+    ensures inline { GetsAsk }
+    ensures registered { RegisteredGetsAsk }
+{}
