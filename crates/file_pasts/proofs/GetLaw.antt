@@ -1,28 +1,25 @@
 -- A get asks for the READs of its bytes, in order, and END after them.
-use Rattle.std.proofs.Common.{◌≡◌, ◌⊎◌, inl, inr, ℕ, zero, suc, ◌+◌, ◌-◌, ◌*◌, ◌/◌, ◌^◌, ◌<◌, ◌≤◌, ◌==◌, nat_lt, nat_le, not, ◌&&◌, ◌||◌, Bool, true, false, cond, is_some, Option, Some, None, option_map, Result, Ok, Err, List, [], ◌∷◌, ◌++◌, length, take, drop, map, refl, sym, ap, ◌∙◌, subst, add-one, append_assoc, length-append, lit<, lit≤, arith}
+use Rattle.std.proofs.Common.{◌≡◌, ◌⊎◌, inl, inr, ℕ, zero, suc, ◌+◌, ◌-◌, ◌*◌, ◌/◌, ◌^◌, ◌<◌, ◌≤◌, ◌==◌, nat_lt, nat_le, not, ◌&&◌, ◌||◌, Bool, true, false, cond, is_some, Option, Some, None, option_map, Result, Ok, Err, List, [], ◌∷◌, ◌++◌, length, take, drop, refl, sym, ap, ◌∙◌, subst, add-one, length-append, lit<, arith}
 use Rattle.std.specs.Prelude.{slice_get}
-use mathlib.Core.List.{IsPrefix}
 use Rattle.std.proofs.lemmas.Bool.Decides.{nat_tests}
-use Rattle.std.proofs.lemmas.List.{append-nil, length-drop, drop-append-le}
+use Rattle.std.proofs.lemmas.List.{length-drop, drop-append-le}
 use Rattle.smbd_base.specs.Fields.{u32_at}
 use Rattle.buffer_descriptor.specs.declared.descriptor.Descriptor.{Descriptor}
 use Rattle.file_messages.specs.declared.kind.Channel.{Channel}
 use Rattle.file_messages.specs.declared.kind.Channel.TheVariants as channels
 use Rattle.file_messages.specs.declared.fault.FileFault.{FileFault}
-use Rattle.file_messages.specs.declared.fault.FileFault.TheVariants.{Order}
 use Rattle.file_messages.specs.declared.fault.ReplyFault.{ReplyFault}
-use Rattle.file_messages.specs.declared.fault.ReplyFault.TheVariants.{File, Status}
 use Rattle.file_messages.specs.declared.message.Request.{Request}
 use Rattle.file_messages.specs.declared.message.Reply.{Reply}
-use Rattle.file_messages.specs.Messages.{END, asked_by, reply_of, reply_bytes, reply_fields, fault_in_reply, value_or_fault, success}
-use Rattle.file_messages.specs.Runs.{end_request, read_of, reads_from, reads_count, get_requests, read_descriptors, bytes_read, reply_to, replies_to}
+use Rattle.file_messages.specs.Messages.{asked_by, reply_bytes, reply_fields, fault_in_reply, value_or_fault}
+use Rattle.file_messages.specs.Runs.{end_request, read_of, reads_from, reads_count, get_requests, read_descriptors, reply_to, replies_to}
 use Rattle.file_messages.specs.Written.{IsCopyable, Replies}
 use Rattle.file_messages.proofs.WrittenMessages.{replies_read}
-use Rattle.file_pasts.specs.ClientPast.{ClientEvent, Group, End, Sent, Replied, Gave, Completed, Received, requests_sent, Answers, fault_of_reading, fault_for, lasting_or, reply_fault, replied, answers, has_failed, are_answered}
+use Rattle.file_pasts.specs.ClientPast.{ClientEvent, Group, End, Sent, Replied, Gave, Completed, Received, requests_sent, Answers, fault_for, lasting_or, reply_fault, replied, answers, has_failed, are_answered}
 use Rattle.file_pasts.specs.GetDue.{counts_taken, sum_of, sent, last_count, goes_on, has_ended, is_between_rounds, descriptors_loaded, read_request, read_due, next_request, IsGet}
 use Rattle.file_pasts.specs.PutTokens.{HasPoolTokens}
 use Rattle.file_pasts.specs.GetLaws.{replies_in, IsAnswered, GetsAsk, RegisteredGetsAsk}
-use Rattle.file_pasts.proofs.Lists.{within, take_one_more, get_of_front, front_of, prefix_before, last_mapped, got_of_map, left_at, length_front, front_whole}
+use Rattle.file_pasts.proofs.Lists.{within, take_one_more, front_of, prefix_before, last_mapped, got_of_map, left_at, length_front, front_whole}
 use Rattle.file_pasts.proofs.GetTokens.{read_named}
 
 -- ---- the replies of a get are read
@@ -44,7 +41,11 @@ same_number x = grind (arith, nat_tests)
 
 read_answered : (channel : Channel) (bytes : List ℕ) (k : ℕ) → k < 2 ^ 32 → Replies (asked_by (read_of channel k)) (reply_to bytes (read_of channel k))
 read_answered channels.None bytes k small = record {
-  asked_op = lit< tt; op = refl; status = lit< tt; id = refl; id_fits = small;
+  asked_op = lit< tt;
+  op = refl;
+  status = lit< tt;
+  id = refl;
+  id_fits = small;
   count_fits = (let x = length-took 65536 (drop (65536 * (k - 1)) bytes) in omega (arith, x));
   count =
       both (nat_le (length (take 65536 (drop (65536 * (k - 1)) bytes))) 65536) (length (take 65536 (drop (65536 * (k - 1)) bytes)) == length (take 65536 (drop (65536 * (k - 1)) bytes)))
@@ -55,7 +56,11 @@ read_answered channels.None bytes k small = record {
   both : (x y : Bool) → x ≡ true → y ≡ true → (x && y) ≡ true
   both x y p q = rw (p, q) refl
 read_answered channels.V1 bytes k small = record {
-  asked_op = lit< tt; op = refl; status = lit< tt; id = refl; id_fits = small;
+  asked_op = lit< tt;
+  op = refl;
+  status = lit< tt;
+  id = refl;
+  id_fits = small;
   count_fits = (let x = length-took 65536 (drop (65536 * (k - 1)) bytes) in omega (arith, x));
   count =
       first (nat_le (length (take 65536 (drop (65536 * (k - 1)) bytes))) 65536)
@@ -67,7 +72,14 @@ read_answered channels.V1 bytes k small = record {
 
 end_answered : (bytes : List ℕ) (k offset : ℕ) → k < 2 ^ 32 → Replies (asked_by (end_request k offset)) (reply_to bytes (end_request k offset))
 end_answered bytes k offset small = record {
-  asked_op = lit< tt; op = refl; status = lit< tt; id = refl; id_fits = small; count_fits = lit< tt; count = refl; inline = λ e. refl;
+  asked_op = lit< tt;
+  op = refl;
+  status = lit< tt;
+  id = refl;
+  id_fits = small;
+  count_fits = lit< tt;
+  count = refl;
+  inline = λ e. refl;
 }
 
 -- ---- what stands where in the run
@@ -98,6 +110,7 @@ unfolding RunCase
 run_case channel bytes n r e = by_place (nat_lt n (reads_count bytes)) refl where
   same : (x y : Request) → Some x ≡ Some y → y ≡ x
   same x y h = cc
+
   by_place : (t : Bool) → nat_lt n (reads_count bytes) ≡ t → ((n < reads_count bytes) × (r ≡ read_of channel (n + 1))) ⊎ ((n ≡ reads_count bytes) × (r ≡ end_request (reads_count bytes + 1) (length bytes)))
   by_place true t =
       let less : n < reads_count bytes = grind (arith, nat_tests) in
@@ -155,8 +168,7 @@ unfolding counts_to
 whole-so-far bytes zero h = (refl, refl)
 whole-so-far bytes (suc n) h =
     let w : got bytes (1 + n) ≡ 65536 = got-whole bytes (1 + n) (let z : 1 + n - 1 ≡ n = omega arith in omega (arith, z)) in
-    let ih = whole-so-far bytes n (omega arith) in
-    (
+    let ih = whole-so-far bytes n (omega arith) in (
       ap sum_of (sym (counts-more bytes 1 n)) ∙ sum-append (counts_to bytes 1 n) (got bytes (1 + n)) ∙ (let z : sum_of (counts_to bytes 1 n) + got bytes (1 + n) ≡ 65536 * suc n = omega (arith, w, ih.0) in z),
       ap last_count (sym (counts-more bytes 1 n)) ∙ last-append (counts_to bytes 1 n) (got bytes (1 + n)) ∙ w,
     )
@@ -195,25 +207,29 @@ record Due (channel : Channel) (past : List ClientEvent) (r : Request) : Type 0 
 due_is : (channel : Channel) (past : List ClientEvent) (r : Request) → next_request channel past ≡ Some r → Due channel past r
 due_is channel past r e =
     by_tests (has_failed past) (has_ended (requests_sent past)) (is_between_rounds channel past) refl refl refl e where
-  no_fault : (o : Option ReplyFault) → is_some o ≡ false → o ≡ None
-  no_fault None h = refl
-  no_fault (Some f) h = absurd (let b : ⊥ = cc in b)
-  first_of : (x y : Bool) → (x && y) ≡ true → x ≡ true
-  first_of true y h = refl
-  first_of false y h = absurd (let b : ⊥ = cc in b)
-  all_answered : (c : Channel) → is_between_rounds c past ≡ true → are_answered past ≡ true
-  all_answered channels.None h = h
-  all_answered channels.V1 h = first_of (are_answered past) _ h
-  by_tests : (a b c : Bool) → has_failed past ≡ a → has_ended (requests_sent past) ≡ b → is_between_rounds channel past ≡ c
-      → cond (a || b) None (cond (not c) None (cond (goes_on past) (read_due channel past) (Some (end_request (sent past + 1) (sum_of (counts_taken past)))))) ≡ Some r → Due channel past r
-  by_tests true b c p q s h = absurd (let x : ⊥ = cc in x)
-  by_tests false true c p q s h = absurd (let x : ⊥ = cc in x)
-  by_tests false false false p q s h = absurd (let x : ⊥ = cc in x)
-  by_tests false false true p q s h = record {
-    fine = no_fault (answers past).fault p; unended = q;
-    answered = (let x : (length (answers past).unanswered == 0) ≡ true = all_answered channel s in grind (arith, nat_tests));
-    which = h;
-  }
+      no_fault : (o : Option ReplyFault) → is_some o ≡ false → o ≡ None
+      no_fault None h = refl
+      no_fault (Some f) h = absurd (let b : ⊥ = cc in b)
+
+      first_of : (x y : Bool) → (x && y) ≡ true → x ≡ true
+      first_of true y h = refl
+      first_of false y h = absurd (let b : ⊥ = cc in b)
+
+      all_answered : (c : Channel) → is_between_rounds c past ≡ true → are_answered past ≡ true
+      all_answered channels.None h = h
+      all_answered channels.V1 h = first_of (are_answered past) _ h
+
+      by_tests : (a b c : Bool) → has_failed past ≡ a → has_ended (requests_sent past) ≡ b → is_between_rounds channel past ≡ c
+          → cond (a || b) None (cond (not c) None (cond (goes_on past) (read_due channel past) (Some (end_request (sent past + 1) (sum_of (counts_taken past)))))) ≡ Some r → Due channel past r
+      by_tests true b c p q s h = absurd (let x : ⊥ = cc in x)
+      by_tests false true c p q s h = absurd (let x : ⊥ = cc in x)
+      by_tests false false false p q s h = absurd (let x : ⊥ = cc in x)
+      by_tests false false true p q s h = record {
+        fine = no_fault (answers past).fault p;
+        unended = q;
+        answered = (let x : (length (answers past).unanswered == 0) ≡ true = all_answered channel s in grind (arith, nat_tests));
+        which = h;
+      }
 
 ended-run : (channel : Channel) (m k : ℕ) (e : Request) → has_ended (reads_from channel m k ++ e ∷ []) ≡ has_ended (e ∷ [])
 ended-run channel zero k e = refl
@@ -232,11 +248,12 @@ read_is channels.None past r n s e =
     same (read_request 0 (sent past + 1) (sum_of (counts_taken past)) []) r e
     ∙ ap (λ (o : ℕ). read_request 0 (sent past + 1) o []) (s ∙ ap (λ (x : ℕ). 65536 * x) (let z : sent past ≡ sent past + 1 - 1 = omega arith in z))
   where
-  same : (x y : Request) → Some x ≡ Some y → y ≡ x
-  same x y h = cc
+    same : (x y : Request) → Some x ≡ Some y → y ≡ x
+    same x y h = cc
 read_is channels.V1 past r n s e = by_descriptors (descriptors_loaded 16 0 (sent past) past) refl e where
   same : (x y : Request) → Some x ≡ Some y → y ≡ x
   same x y h = cc
+
   by_descriptors : (o : Option (List Descriptor)) → descriptors_loaded 16 0 (sent past) past ≡ o → option_map (read_request 1 (sent past + 1) (sum_of (counts_taken past))) o ≡ Some r
       → r ≡ read_of channels.V1 (sent past + 1)
   by_descriptors None p h = absurd (let b : ⊥ = cc in b)
@@ -259,42 +276,44 @@ next_of_run channel bytes past r names g d =
     let long : length run ≡ reads_count bytes + 1 = length-get channel bytes in
     let most : n ≤ reads_count bytes + 1 = (let x : length (take n run) ≤ length run = length_front n run in omega (arith, ap length g.front, x, long)) in
     let not_all : n ≡ reads_count bytes + 1 → ⊥ = (λ (h : n ≡ reads_count bytes + 1).
-        ended (sym d.unended ∙ ap has_ended (g.front ∙ front_whole n run (omega (arith, h, long))) ∙ ended-run channel (reads_count bytes) 1 last)) in
+    ended (sym d.unended ∙ ap has_ended (g.front ∙ front_whole n run (omega (arith, h, long))) ∙ ended-run channel (reads_count bytes) 1 last)) in
     let within_reads : n ≤ reads_count bytes = omega (arith, most, not_all) in
     let counted : counts_taken past ≡ counts_to bytes 1 n = f.counts (omega (arith, all, within_reads)) ∙ ap (counts_to bytes 1) all in
     by_end (nat_lt n (reads_count bytes)) refl (goes_on past) refl counted within_reads d.which
   where
-  ended : false ≡ true → ⊥
-  ended h = cc
-  same : (x y : Request) → Some x ≡ Some y → y ≡ x
-  same x y h = cc
-  by_end : (t : Bool) → nat_lt (sent past) (reads_count bytes) ≡ t → (b : Bool) → (last_count (counts_taken past) == 65536) ≡ b → counts_taken past ≡ counts_to bytes 1 (sent past) → sent past ≤ reads_count bytes
-      → cond b (read_due channel past) (Some (end_request (sent past + 1) (sum_of (counts_taken past)))) ≡ Some r → slice_get (get_requests channel bytes) (sent past) ≡ Some r
-  by_end true p true q c w h =
-      let less : sent past < reads_count bytes = grind (arith, nat_tests) in
-      let so_far = whole-so-far bytes (sent past) (omega (arith, less)) in
-      read-at channel (reads_count bytes) 1 (sent past) (end_request (reads_count bytes + 1) (length bytes) ∷ []) less
-      ∙ ap (λ (k : ℕ). Some (read_of channel k)) (let z : 1 + sent past ≡ sent past + 1 = omega arith in z)
-      ∙ ap (λ (x : Request). Some x) (sym (read_is channel past r names (ap sum_of c ∙ so_far.0) h))
-  by_end true p false q c w h =
-      let less : sent past < reads_count bytes = grind (arith, nat_tests) in
-      let so_far = whole-so-far bytes (sent past) (omega (arith, less)) in
-      absurd (let x : last_count (counts_taken past) ≡ 65536 = ap last_count c ∙ so_far.1 in let y : (last_count (counts_taken past) == 65536) ≡ true = grind (arith, nat_tests) in two y q)
-    where
-    two : {b : Bool} → b ≡ true → b ≡ false → ⊥
-    two x y = cc
-  by_end false p true q c w h =
-      let more : reads_count bytes ≤ sent past = grind (arith, nat_tests) in
-      let at : sent past ≡ reads_count bytes = omega (arith, more, w) in
-      let x : last_count (counts_taken past) ≡ 65536 = grind (arith, nat_tests) in
-      absurd (let y = (all-counted bytes).1 in let b : ⊥ = omega (arith, y, x, ap last_count (c ∙ ap (counts_to bytes 1) at)) in b)
-  by_end false p false q c w h =
-      let more : reads_count bytes ≤ sent past = grind (arith, nat_tests) in
-      let at : sent past ≡ reads_count bytes = omega (arith, more, w) in
-      ap (slice_get (get_requests channel bytes)) at ∙ end-at channel (reads_count bytes) 1 (end_request (reads_count bytes + 1) (length bytes))
-      ∙ ap (λ (x : Request). Some x) (sym (same (end_request (sent past + 1) (sum_of (counts_taken past))) r h
-      ∙ ap (λ (k : ℕ). end_request (k + 1) (sum_of (counts_taken past))) at
-      ∙ ap (end_request (reads_count bytes + 1)) (ap sum_of (c ∙ ap (counts_to bytes 1) at) ∙ (all-counted bytes).0)))
+    ended : false ≡ true → ⊥
+    ended h = cc
+
+    same : (x y : Request) → Some x ≡ Some y → y ≡ x
+    same x y h = cc
+
+    by_end : (t : Bool) → nat_lt (sent past) (reads_count bytes) ≡ t → (b : Bool) → (last_count (counts_taken past) == 65536) ≡ b → counts_taken past ≡ counts_to bytes 1 (sent past) → sent past ≤ reads_count bytes
+        → cond b (read_due channel past) (Some (end_request (sent past + 1) (sum_of (counts_taken past)))) ≡ Some r → slice_get (get_requests channel bytes) (sent past) ≡ Some r
+    by_end true p true q c w h =
+        let less : sent past < reads_count bytes = grind (arith, nat_tests) in
+        let so_far = whole-so-far bytes (sent past) (omega (arith, less)) in
+        read-at channel (reads_count bytes) 1 (sent past) (end_request (reads_count bytes + 1) (length bytes) ∷ []) less
+        ∙ ap (λ (k : ℕ). Some (read_of channel k)) (let z : 1 + sent past ≡ sent past + 1 = omega arith in z)
+        ∙ ap (λ (x : Request). Some x) (sym (read_is channel past r names (ap sum_of c ∙ so_far.0) h))
+    by_end true p false q c w h =
+        let less : sent past < reads_count bytes = grind (arith, nat_tests) in
+        let so_far = whole-so-far bytes (sent past) (omega (arith, less)) in
+        absurd (let x : last_count (counts_taken past) ≡ 65536 = ap last_count c ∙ so_far.1 in let y : (last_count (counts_taken past) == 65536) ≡ true = grind (arith, nat_tests) in two y q)
+      where
+        two : {b : Bool} → b ≡ true → b ≡ false → ⊥
+        two x y = cc
+    by_end false p true q c w h =
+        let more : reads_count bytes ≤ sent past = grind (arith, nat_tests) in
+        let at : sent past ≡ reads_count bytes = omega (arith, more, w) in
+        let x : last_count (counts_taken past) ≡ 65536 = grind (arith, nat_tests) in
+        absurd (let y = (all-counted bytes).1 in let b : ⊥ = omega (arith, y, x, ap last_count (c ∙ ap (counts_to bytes 1) at)) in b)
+    by_end false p false q c w h =
+        let more : reads_count bytes ≤ sent past = grind (arith, nat_tests) in
+        let at : sent past ≡ reads_count bytes = omega (arith, more, w) in
+        ap (slice_get (get_requests channel bytes)) at ∙ end-at channel (reads_count bytes) 1 (end_request (reads_count bytes + 1) (length bytes))
+        ∙ ap (λ (x : Request). Some x) (sym (same (end_request (sent past + 1) (sum_of (counts_taken past))) r h
+        ∙ ap (λ (k : ℕ). end_request (k + 1) (sum_of (counts_taken past))) at
+        ∙ ap (end_request (reads_count bytes + 1)) (ap sum_of (c ∙ ap (counts_to bytes 1) at) ∙ (all-counted bytes).0)))
 
 -- what the reply to a READ of the run counts
 told : (channel : Channel) (bytes : List ℕ) (j : ℕ) (q : Request) → IsCopyable bytes → j < reads_count bytes → RunCase channel bytes j q → u32_at 8 (reply_bytes (reply_to bytes q)) ≡ got bytes (1 + j)
@@ -304,12 +323,13 @@ told channel bytes j q few less (inl x) =
     read_count (fault_in_reply (asked_by q) (reply_bytes (reply_to bytes q))) (replies_read (asked_by q) (reply_to bytes q) (case_answered channel bytes j q few (inl x)))
     ∙ ap (λ (r : Request). (reply_to bytes r).count) x.1 ∙ by_channel channel
   where
-  read_count : (o : Option FileFault) → value_or_fault o (reply_fields (asked_by q) (reply_bytes (reply_to bytes q))) ≡ Ok (reply_to bytes q) → u32_at 8 (reply_bytes (reply_to bytes q)) ≡ (reply_to bytes q).count
-  read_count None e = ap (λ (r : Result Reply FileFault). elim r [ Ok y ↦ y.count | Err f ↦ 0 ]) e
-  read_count (Some f) e = absurd (let b : ⊥ = cc in b)
-  by_channel : (c : Channel) → (reply_to bytes (read_of c (j + 1))).count ≡ length (take 65536 (drop (65536 * (1 + j - 1)) bytes))
-  by_channel channels.None = ap (λ (k : ℕ). length (take 65536 (drop (65536 * (k - 1)) bytes))) (let z : j + 1 ≡ 1 + j = omega arith in z)
-  by_channel channels.V1 = ap (λ (k : ℕ). length (take 65536 (drop (65536 * (k - 1)) bytes))) (let z : j + 1 ≡ 1 + j = omega arith in z)
+    read_count : (o : Option FileFault) → value_or_fault o (reply_fields (asked_by q) (reply_bytes (reply_to bytes q))) ≡ Ok (reply_to bytes q) → u32_at 8 (reply_bytes (reply_to bytes q)) ≡ (reply_to bytes q).count
+    read_count None e = ap (λ (r : Result Reply FileFault). elim r [ Ok y ↦ y.count | Err f ↦ 0 ]) e
+    read_count (Some f) e = absurd (let b : ⊥ = cc in b)
+
+    by_channel : (c : Channel) → (reply_to bytes (read_of c (j + 1))).count ≡ length (take 65536 (drop (65536 * (1 + j - 1)) bytes))
+    by_channel channels.None = ap (λ (k : ℕ). length (take 65536 (drop (65536 * (k - 1)) bytes))) (let z : j + 1 ≡ 1 + j = omega arith in z)
+    by_channel channels.V1 = ap (λ (k : ℕ). length (take 65536 (drop (65536 * (k - 1)) bytes))) (let z : j + 1 ≡ 1 + j = omega arith in z)
 
 got-sent : (channel : Channel) (bytes : List ℕ) (r : Request) (past : List ClientEvent) → NamesReads channel past → Got channel bytes past → next_request channel past ≡ Some r → Got channel bytes (Sent r ∷ past)
 got-sent channel bytes r past names g e =
@@ -333,8 +353,10 @@ got-replied channel bytes m past q few g at m_is = record {
   parts : (fault found : Option ReplyFault) → lasting_or fault found ≡ None → (fault ≡ None) × (found ≡ None)
   parts None found e = (refl, e)
   parts (Some f) found e = absurd (let b : ⊥ = cc in b)
+
   same : (x y : Request) → Some x ≡ Some y → x ≡ y
   same x y h = cc
+
   by_open : (rs : List Request) → (answers past).unanswered ≡ rs → fault_for rs m ≡ None → reply_fault (answers past) m ≡ None → Fine bytes past → Fine bytes (Replied m ∷ past)
   by_open [] u e h f = absurd (let b : ⊥ = cc in b)
   by_open (r ∷ later) u e h f =
@@ -353,6 +375,7 @@ got-replied channel bytes m past q few g at m_is = record {
             ∙ ap (λ (x : ℕ). counts_to bytes 1 j ++ x ∷ []) (ap (u32_at 8) m_is ∙ told channel bytes j q few less_reads (run_case channel bytes j q at))
             ∙ counts-more bytes 1 j ∙ ap (counts_to bytes 1) (sym more));
       }
+
   by_fault : (o : Option ReplyFault) → reply_fault (answers past) m ≡ o → (answers (Replied m ∷ past)).fault ≡ None → Fine bytes (Replied m ∷ past)
   by_fault (Some f) e h = absurd (never (sym (ap (λ (o : Option ReplyFault). (replied o (answers past)).fault) e) ∙ h)) where
     never : Some f ≡ None → ⊥

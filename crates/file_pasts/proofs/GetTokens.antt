@@ -1,12 +1,9 @@
 -- The loads of a get's pages have the descriptors of their rounds, where a pool gives the tokens.
-use Rattle.std.proofs.Common.{◌≡◌, ◌⊎◌, inl, inr, ℕ, zero, suc, ◌+◌, ◌-◌, ◌*◌, ◌/◌, ◌%◌, ◌<◌, ◌≤◌, ◌==◌, Bool, true, false, cond, Option, Some, None, List, [], ◌∷◌, ◌++◌, length, replicate, refl, sym, ap, ◌∙◌, subst, append_assoc, arith}
+use Rattle.std.proofs.Common.{◌≡◌, ◌⊎◌, inl, inr, ℕ, zero, suc, ◌+◌, ◌-◌, ◌*◌, ◌==◌, Bool, true, false, cond, Option, Some, None, List, [], ◌∷◌, ◌++◌, length, refl, sym, ap, ◌∙◌, subst, arith}
 use Rattle.std.specs.Prelude.{slice_get}
 use Rattle.std.proofs.lemmas.Bool.Decides.{nat_tests}
 use Rattle.std.proofs.lemmas.List.{append-nil}
-use Rattle.smbd_base.specs.Tokens.{number_of}
-use Rattle.smbd_base.specs.declared.right.Right.TheVariants as right
 use Rattle.buffer_descriptor.specs.declared.descriptor.Descriptor.{Descriptor}
-use Rattle.file_messages.specs.declared.kind.Channel.{Channel}
 use Rattle.file_messages.specs.declared.kind.Channel.TheVariants as channels
 use Rattle.file_messages.specs.declared.fault.ReplyFault.{ReplyFault}
 use Rattle.file_messages.specs.declared.message.Request.{Request}
@@ -16,7 +13,7 @@ use Rattle.file_messages.specs.declared.job.Work.TheVariants.{Load, Fetch, Place
 use Rattle.file_messages.specs.declared.job.WorkResult.{WorkResult}
 use Rattle.file_messages.specs.declared.job.WorkResult.TheVariants.{Loaded, Unloaded, Fetched, Placed, Refused}
 use Rattle.file_messages.specs.Runs.{descriptor_of_load, read_descriptors}
-use Rattle.file_pasts.specs.ClientPast.{ClientEvent, Group, End, Sent, Replied, Gave, Completed, Received, jobs_given, open_jobs, job_at, without_job, descriptors_on, loaded_by, token_in, reply_fault, answers, has_failed, AnswersJob, IsOfKind}
+use Rattle.file_pasts.specs.ClientPast.{ClientEvent, Group, End, Sent, Replied, Gave, Completed, Received, jobs_given, open_jobs, job_at, without_job, descriptors_on, loaded_by, token_in, reply_fault, answers, has_failed, IsOfKind}
 use Rattle.file_pasts.specs.PutDue.{in_front, numbered, if_taken, unloads_of, unloads_of_first}
 use Rattle.file_pasts.specs.GetDue.{page_loads, begins_round, jobs_due, next_job, descriptors_loaded, IsGet}
 use Rattle.file_pasts.specs.PutTokens.{IsNextToken, HasPoolTokens}
@@ -102,11 +99,12 @@ jobs-at n (job ∷ later) work a e = by_test (job.number == n) e (λ (h : job_at
   by_test false h f = f h
 
 -- what was given was due
-given_due : (past : List ClientEvent) (work : Work) → next_job channels.V1 past ≡ Some (record { number = length (jobs_given past); work = work })
+pub given_due : (past : List ClientEvent) (work : Work) → next_job channels.V1 past ≡ Some (record { number = length (jobs_given past); work = work })
     → slice_get (jobs_due past) (length (jobs_given past)) ≡ Some work
 given_due past work e = by_failed (has_failed past) (slice_get (jobs_due past) (length (jobs_given past))) e where
   same : (x : Work) → ◌≡◌ {A = Option Job} (Some (record { number = length (jobs_given past); work = x })) (Some (record { number = length (jobs_given past); work = work })) → Some x ≡ Some work
   same x h = ap (λ (o : Option Job). elim o [ None ↦ None | Some j ↦ Some j.work ]) h
+
   by_failed : (t : Bool) (o : Option Work) → cond t None (numbered (length (jobs_given past)) o) ≡ Some (record { number = length (jobs_given past); work = work }) → o ≡ Some work
   by_failed true o h = absurd (let b : ⊥ = cc in b)
   by_failed false None h = absurd (let b : ⊥ = cc in b)
@@ -154,26 +152,29 @@ get_owned page turn d (Completed c ∷ past) p k e =
     by_result c.result (λ x y. loaded_is p.0.work x past (subst (IsOfKind p.0.work) y p.0.fits) (jobs-at c.number (open_jobs past) p.0.work (open-whole past p.1) p.0.is_open) (subst (λ (r : WorkResult). IsNextToken r past) y k.0))
     e (λ h. get_owned page turn d past p.1 k.1 h)
   where
-  unchanged : slice_get (descriptors_on page past ++ []) turn ≡ Some d → slice_get (descriptors_on page past) turn ≡ Some d
-  unchanged h = ap (λ (t : List Descriptor). slice_get t turn) (sym (append-nil (descriptors_on page past))) ∙ h
-  by_page : (x : Descriptor) (t : Bool) → ((token_in x).page == page) ≡ t → x ≡ descriptor_of_load (token_in x).page (length (descriptors_on (token_in x).page past)) 4096
-      → slice_get (descriptors_on page past ++ cond t (x ∷ []) []) turn ≡ Some d → (slice_get (descriptors_on page past) turn ≡ Some d → d ≡ descriptor_of_load page turn 4096) → d ≡ descriptor_of_load page turn 4096
-  by_page x false q own h ih = ih (unchanged h)
-  by_page x true q own h ih = by_last (get_last (descriptors_on page past) x turn d h) where
-    same : (token_in x).page ≡ page
-    same = grind (arith, nat_tests)
-    by_last : (slice_get (descriptors_on page past) turn ≡ Some d) ⊎ ((turn ≡ length (descriptors_on page past)) × (d ≡ x)) → d ≡ descriptor_of_load page turn 4096
-    by_last (inl a) = ih a
-    by_last (inr a) = a.1 ∙ own ∙ ap (λ (z : ℕ). descriptor_of_load z (length (descriptors_on z past)) 4096) same ∙ ap (λ (z : ℕ). descriptor_of_load page z 4096) (sym a.0)
-  by_result : (r : WorkResult) → ((x : Descriptor) → c.result ≡ Loaded x → x ≡ descriptor_of_load (token_in x).page (length (descriptors_on (token_in x).page past)) 4096)
-      → slice_get (descriptors_on page past ++ loaded_by page c.result) turn ≡ Some d → (slice_get (descriptors_on page past) turn ≡ Some d → d ≡ descriptor_of_load page turn 4096) → d ≡ descriptor_of_load page turn 4096
-  by_result r own h ih = go c.result refl (ap (λ (x : WorkResult). slice_get (descriptors_on page past ++ loaded_by page x) turn) refl ∙ h) where
-    go : (x : WorkResult) → c.result ≡ x → slice_get (descriptors_on page past ++ loaded_by page x) turn ≡ Some d → d ≡ descriptor_of_load page turn 4096
-    go (Loaded x) q f = by_page x ((token_in x).page == page) refl (own x q) f ih
-    go (Fetched bytes) q f = ih (unchanged f)
-    go Placed q f = ih (unchanged f)
-    go (Unloaded bytes) q f = ih (unchanged f)
-    go (Refused status) q f = ih (unchanged f)
+    unchanged : slice_get (descriptors_on page past ++ []) turn ≡ Some d → slice_get (descriptors_on page past) turn ≡ Some d
+    unchanged h = ap (λ (t : List Descriptor). slice_get t turn) (sym (append-nil (descriptors_on page past))) ∙ h
+
+    by_page : (x : Descriptor) (t : Bool) → ((token_in x).page == page) ≡ t → x ≡ descriptor_of_load (token_in x).page (length (descriptors_on (token_in x).page past)) 4096
+        → slice_get (descriptors_on page past ++ cond t (x ∷ []) []) turn ≡ Some d → (slice_get (descriptors_on page past) turn ≡ Some d → d ≡ descriptor_of_load page turn 4096) → d ≡ descriptor_of_load page turn 4096
+    by_page x false q own h ih = ih (unchanged h)
+    by_page x true q own h ih = by_last (get_last (descriptors_on page past) x turn d h) where
+      same : (token_in x).page ≡ page
+      same = grind (arith, nat_tests)
+
+      by_last : (slice_get (descriptors_on page past) turn ≡ Some d) ⊎ ((turn ≡ length (descriptors_on page past)) × (d ≡ x)) → d ≡ descriptor_of_load page turn 4096
+      by_last (inl a) = ih a
+      by_last (inr a) = a.1 ∙ own ∙ ap (λ (z : ℕ). descriptor_of_load z (length (descriptors_on z past)) 4096) same ∙ ap (λ (z : ℕ). descriptor_of_load page z 4096) (sym a.0)
+
+    by_result : (r : WorkResult) → ((x : Descriptor) → c.result ≡ Loaded x → x ≡ descriptor_of_load (token_in x).page (length (descriptors_on (token_in x).page past)) 4096)
+        → slice_get (descriptors_on page past ++ loaded_by page c.result) turn ≡ Some d → (slice_get (descriptors_on page past) turn ≡ Some d → d ≡ descriptor_of_load page turn 4096) → d ≡ descriptor_of_load page turn 4096
+    by_result r own h ih = go c.result refl (ap (λ (x : WorkResult). slice_get (descriptors_on page past ++ loaded_by page x) turn) refl ∙ h) where
+      go : (x : WorkResult) → c.result ≡ x → slice_get (descriptors_on page past ++ loaded_by page x) turn ≡ Some d → d ≡ descriptor_of_load page turn 4096
+      go (Loaded x) q f = by_page x ((token_in x).page == page) refl (own x q) f ih
+      go (Fetched bytes) q f = ih (unchanged f)
+      go Placed q f = ih (unchanged f)
+      go (Unloaded bytes) q f = ih (unchanged f)
+      go (Refused status) q f = ih (unchanged f)
 get_owned page turn d (Received bytes ∷ past) p k e = get_owned page turn d past p.1 k e
 
 -- the descriptors of a READ are those of its round
@@ -182,14 +183,15 @@ pub read_named : (count i rounds : ℕ) (past : List ClientEvent) (ds : List Des
 read_named zero i rounds past ds p k e = (let h : ds ≡ [] = cc in h)
 read_named (suc count) i rounds past ds p k e =
     by_parts (slice_get (descriptors_on i past) rounds) (descriptors_loaded count (i + 1) rounds past) refl refl e (λ later h. read_named count (i + 1) rounds past later p k h) where
-  same : (xs ys : List Descriptor) → Some xs ≡ Some ys → ys ≡ xs
-  same xs ys h = cc
-  by_parts : (o : Option Descriptor) (l : Option (List Descriptor)) → slice_get (descriptors_on i past) rounds ≡ o → descriptors_loaded count (i + 1) rounds past ≡ l → in_front o l ≡ Some ds
-      → ((later : List Descriptor) → descriptors_loaded count (i + 1) rounds past ≡ Some later → later ≡ read_descriptors count (i + 1) (rounds + 1))
-      → ds ≡ descriptor_of_load i (rounds + 1 - 1) 4096 ∷ read_descriptors count (i + 1) (rounds + 1)
-  by_parts None l q r h ih = absurd (let b : ⊥ = cc in b)
-  by_parts (Some d) None q r h ih = absurd (let b : ⊥ = cc in b)
-  by_parts (Some d) (Some later) q r h ih =
-      same (d ∷ later) ds h
-      ∙ ap (λ (x : Descriptor). x ∷ later) (get_owned i rounds d past p k q ∙ ap (λ (n : ℕ). descriptor_of_load i n 4096) (let z : rounds ≡ rounds + 1 - 1 = omega arith in z))
-      ∙ ap (λ (x : List Descriptor). descriptor_of_load i (rounds + 1 - 1) 4096 ∷ x) (ih later r)
+      same : (xs ys : List Descriptor) → Some xs ≡ Some ys → ys ≡ xs
+      same xs ys h = cc
+
+      by_parts : (o : Option Descriptor) (l : Option (List Descriptor)) → slice_get (descriptors_on i past) rounds ≡ o → descriptors_loaded count (i + 1) rounds past ≡ l → in_front o l ≡ Some ds
+          → ((later : List Descriptor) → descriptors_loaded count (i + 1) rounds past ≡ Some later → later ≡ read_descriptors count (i + 1) (rounds + 1))
+          → ds ≡ descriptor_of_load i (rounds + 1 - 1) 4096 ∷ read_descriptors count (i + 1) (rounds + 1)
+      by_parts None l q r h ih = absurd (let b : ⊥ = cc in b)
+      by_parts (Some d) None q r h ih = absurd (let b : ⊥ = cc in b)
+      by_parts (Some d) (Some later) q r h ih =
+          same (d ∷ later) ds h
+          ∙ ap (λ (x : Descriptor). x ∷ later) (get_owned i rounds d past p k q ∙ ap (λ (n : ℕ). descriptor_of_load i n 4096) (let z : rounds ≡ rounds + 1 - 1 = omega arith in z))
+          ∙ ap (λ (x : List Descriptor). descriptor_of_load i (rounds + 1 - 1) 4096 ∷ x) (ih later r)

@@ -13,3 +13,4 @@ pub mod ServerJobs
 pub mod ServerGroups
 pub mod GetTokens
 pub mod GetLaw
+pub mod GetPages

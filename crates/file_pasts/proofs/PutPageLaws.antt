@@ -35,13 +35,12 @@ loads_come_due w page past p = loads-due w page past p
 pub loads_carry : LoadsCarryParts
 loads_carry w page past p =
     let s : InStep w page past = in_step w page past p in
-    let n : ℕ = count (is_load_on page) (jobs_due w past) in
-    (
+    let n : ℕ = count (is_load_on page) (jobs_due w past) in (
       bytes_loaded page s.rest ++ drop n (parts_on w page past),
       sym (append_assoc (bytes_loaded page (jobs_given past)) (bytes_loaded page s.rest) (drop n (parts_on w page past)))
-      ∙ ap (λ (t : List (List ℕ)). t ++ drop n (parts_on w page past))
-      (sym (bytes_loaded-append page (jobs_given past) s.rest) ∙ ap (bytes_loaded page) (sym s.given) ∙ carries-parts w page past p)
-      ∙ take-append-drop n (parts_on w page past),
+          ∙ ap (λ (t : List (List ℕ)). t ++ drop n (parts_on w page past))
+          (sym (bytes_loaded-append page (jobs_given past) s.rest) ∙ ap (bytes_loaded page) (sym s.given) ∙ carries-parts w page past p)
+          ∙ take-append-drop n (parts_on w page past),
     )
 
 jobs-append : (xs ys : List Work) → ArePutJobs xs → ArePutJobs ys → ArePutJobs (xs ++ ys)
@@ -120,12 +119,16 @@ comes w q j i part [] e = absurd (let b : ⊥ = cc in b)
 comes w q j i part (g ∷ gs) e = by_first (part-single w q j g) i e (λ k h. comes w q (j + 1) k part gs h) where
   later : (k : ℕ) (front : List (List ℕ)) → part_on w q j g ≡ front → Comes w q (j + 1) k part gs → Comes w q j (length front + k) part (g ∷ gs)
   later k front f c = record {
-    n = suc c.n; group = c.group; at = c.at;
+    n = suc c.n;
+    group = c.group;
+    at = c.at;
     mine = ap (λ (x : ℕ). part_on w q x c.group) (let z : j + suc c.n ≡ j + 1 + c.n = omega arith in z) ∙ c.mine;
     place = length-append (part_on w q j g) (pl w q (j + 1) (take c.n gs)) ∙ ap (λ (x : ℕ). x + length (pl w q (j + 1) (take c.n gs))) (ap length f) ∙ ap (λ (x : ℕ). length front + x) c.place;
   }
+
   same_part : (x y : List ℕ) → Some x ≡ Some y → x ≡ y
   same_part x y e = cc
+
   by_first : (part_on w q j g ≡ []) ⊎ Single w q j g → (k : ℕ) → slice_get (part_on w q j g ++ pl w q (j + 1) gs) k ≡ Some part
       → ((m : ℕ) → slice_get (pl w q (j + 1) gs) m ≡ Some part → Comes w q (j + 1) m part gs) → Comes w q j k part (g ∷ gs)
   by_first (inl none) k h ih =
@@ -147,25 +150,28 @@ parts_of_groups w page turn part past some p e =
     let on : page / 16 ≡ c.n % w = (let t : (page / 16 == (0 + c.n) % w) ≡ true = mine.0 in let x : page / 16 ≡ (0 + c.n) % w = grind (arith, nat_tests) in x ∙ ap (λ (k : ℕ). k % w) k_is) in
     let size : length (take c.n (groups_in past)) ≡ c.n = length-take (groups_in past) c.n (let h : c.n < length (groups_in past) = place_within (groups_in past) c.n c.group c.at in omega arith) in
     record {
-      before = c.n; group = c.group; at = c.at;
+      before = c.n;
+      group = c.group;
+      at = c.at;
       page_is = (let d : page ≡ page / 16 * 16 + page % 16 = omega arith in d) ∙ ap (λ (x : ℕ). x * 16 + page % 16) (on ∙ ap (λ (k : ℕ). k % w) (sym n_is));
       turn_is = sym c.place ∙ length-pl w page 0 (take c.n (groups_in past)) (wholes_before (over w) past c.n c.group p c.at)
           ∙ ap (λ (x : ℕ). uses w x 0 (length (take c.n (groups_in past)))) on ∙ ap (uses w (c.n % w) 0) size ∙ uses-turn w c.n some ∙ ap (λ (k : ℕ). k / w) (sym n_is);
       part_is = mine.1;
     }
   where
-  by_single : (k : ℕ) (g : List ℕ) → (part_on w page k g ≡ []) ⊎ Single w page k g → part_on w page k g ≡ part ∷ []
-      → ((page / 16 == k % w) ≡ true) × (slice_get (pages_of g) (page % 16) ≡ Some part)
-  by_single k g (inl none) one = absurd (nothing (sym none ∙ one)) where
-    nothing : [] ≡ part ∷ [] → ⊥
-    nothing h = cc
-  by_single k g (inr s) one = (s.on, s.is ∙ ap (λ (y : List ℕ). Some y) (same s.part (sym s.one ∙ one))) where
-    same : (x : List ℕ) → x ∷ [] ≡ part ∷ [] → x ≡ part
-    same x h = cc
-  length-take : (xs : List (List ℕ)) (n : ℕ) → n ≤ length xs → length (take n xs) ≡ n
-  length-take xs zero h = refl
-  length-take [] (suc n) h = absurd (omega arith)
-  length-take (x ∷ xs) (suc n) h = omega (arith, length-take xs n (omega arith))
+    by_single : (k : ℕ) (g : List ℕ) → (part_on w page k g ≡ []) ⊎ Single w page k g → part_on w page k g ≡ part ∷ []
+        → ((page / 16 == k % w) ≡ true) × (slice_get (pages_of g) (page % 16) ≡ Some part)
+    by_single k g (inl none) one = absurd (nothing (sym none ∙ one)) where
+      nothing : [] ≡ part ∷ [] → ⊥
+      nothing h = cc
+    by_single k g (inr s) one = (s.on, s.is ∙ ap (λ (y : List ℕ). Some y) (same s.part (sym s.one ∙ one))) where
+      same : (x : List ℕ) → x ∷ [] ≡ part ∷ [] → x ≡ part
+      same x h = cc
+
+    length-take : (xs : List (List ℕ)) (n : ℕ) → n ≤ length xs → length (take n xs) ≡ n
+    length-take xs zero h = refl
+    length-take [] (suc n) h = absurd (omega arith)
+    length-take (x ∷ xs) (suc n) h = omega (arith, length-take xs n (omega arith))
 
 -- ---- tokens
 
@@ -182,23 +188,25 @@ found page [] past ds i d e at = absurd (nothing ds i e at) where
 found page (part ∷ parts) past ds i d e at =
     by_parts (slice_get (descriptors_on page past) (named_on page past)) (descriptors_for (page + 1) parts past) refl refl e i at
     (λ later k q f. found (page + 1) parts past later k d q f) where
-  same_list : (xs ys : List Descriptor) → Some xs ≡ Some ys → xs ≡ ys
-  same_list xs ys h = cc
-  same_one : (x y : Descriptor) → Some x ≡ Some y → x ≡ y
-  same_one x y h = cc
-  by_parts : (o : Option Descriptor) (l : Option (List Descriptor)) → slice_get (descriptors_on page past) (named_on page past) ≡ o → descriptors_for (page + 1) parts past ≡ l
-      → in_front o l ≡ Some ds → (k : ℕ) → slice_get ds k ≡ Some d
-      → ((later : List Descriptor) (m : ℕ) → descriptors_for (page + 1) parts past ≡ Some later → slice_get later m ≡ Some d
-      → (turn : ℕ) × (slice_get (descriptors_on (token_in d).page past) turn ≡ Some d))
-      → (turn : ℕ) × (slice_get (descriptors_on (token_in d).page past) turn ≡ Some d)
-  by_parts None l p q h k f ih = absurd (let b : ⊥ = cc in b)
-  by_parts (Some x) None p q h k f ih = absurd (let b : ⊥ = cc in b)
-  by_parts (Some x) (Some later) p q h zero f ih =
-      let x_is : x ≡ d = same_one x d (ap (λ (xs : List Descriptor). slice_get xs 0) (same_list (x ∷ later) ds h) ∙ f) in
-      let page_is : (token_in d).page ≡ page = ap (λ (y : Descriptor). (token_in y).page) (sym x_is) ∙ on_page-at page (descriptors_on page past) (named_on page past) x (on_page page past) p in
-      (named_on page past, ap (λ (y : ℕ). slice_get (descriptors_on y past) (named_on page past)) page_is ∙ p ∙ ap (λ (y : Descriptor). Some y) x_is)
-  by_parts (Some x) (Some later) p q h (suc k) f ih =
-      ih later k q (ap (λ (xs : List Descriptor). slice_get xs (suc k)) (same_list (x ∷ later) ds h) ∙ f)
+      same_list : (xs ys : List Descriptor) → Some xs ≡ Some ys → xs ≡ ys
+      same_list xs ys h = cc
+
+      same_one : (x y : Descriptor) → Some x ≡ Some y → x ≡ y
+      same_one x y h = cc
+
+      by_parts : (o : Option Descriptor) (l : Option (List Descriptor)) → slice_get (descriptors_on page past) (named_on page past) ≡ o → descriptors_for (page + 1) parts past ≡ l
+          → in_front o l ≡ Some ds → (k : ℕ) → slice_get ds k ≡ Some d
+          → ((later : List Descriptor) (m : ℕ) → descriptors_for (page + 1) parts past ≡ Some later → slice_get later m ≡ Some d
+          → (turn : ℕ) × (slice_get (descriptors_on (token_in d).page past) turn ≡ Some d))
+          → (turn : ℕ) × (slice_get (descriptors_on (token_in d).page past) turn ≡ Some d)
+      by_parts None l p q h k f ih = absurd (let b : ⊥ = cc in b)
+      by_parts (Some x) None p q h k f ih = absurd (let b : ⊥ = cc in b)
+      by_parts (Some x) (Some later) p q h zero f ih =
+          let x_is : x ≡ d = same_one x d (ap (λ (xs : List Descriptor). slice_get xs 0) (same_list (x ∷ later) ds h) ∙ f) in
+          let page_is : (token_in d).page ≡ page = ap (λ (y : Descriptor). (token_in y).page) (sym x_is) ∙ on_page-at page (descriptors_on page past) (named_on page past) x (on_page page past) p in
+          (named_on page past, ap (λ (y : ℕ). slice_get (descriptors_on y past) (named_on page past)) page_is ∙ p ∙ ap (λ (y : Descriptor). Some y) x_is)
+      by_parts (Some x) (Some later) p q h (suc k) f ih =
+          ih later k q (ap (λ (xs : List Descriptor). slice_get xs (suc k)) (same_list (x ∷ later) ds h) ∙ f)
 
 get-left : {A : Type 0} (xs ys : List A) (j : ℕ) (x : A) → slice_get xs j ≡ Some x → slice_get (xs ++ ys) j ≡ Some x
 get-left [] ys j x e = absurd (let b : ⊥ = cc in b)
@@ -225,8 +233,8 @@ named_now w i r d past (inl x) at = by_write (descriptors_for (page_of w (length
       found (page_of w (length (requests_sent past) + 1) 0) (pages_of x.0) past ds i d q (ap (λ (y : Request). slice_get y.descriptors i) r_is ∙ at)
 named_now w i r d past (inr x) at =
     absurd (nothing (ap (λ (y : Request). slice_get y.descriptors i) (sym x.2) ∙ at)) where
-  nothing : slice_get (end_request 0 0).descriptors i ≡ Some d → ⊥
-  nothing h = cc
+      nothing : slice_get (end_request 0 0).descriptors i ≡ Some d → ⊥
+      nothing h = cc
 
 pub named_loaded : NamedAreLoaded
 named_loaded w k i r d [] p e at = absurd (let b : ⊥ = cc in b)
@@ -312,8 +320,7 @@ unloads-due w (Received bytes ∷ past) = unloads-due w past
 
 pub unloads_follow : UnloadsFollowReplies
 unloads_follow w past p =
-    let s : InStep w 0 past = in_step w 0 past p in
-    (
+    let s : InStep w 0 past = in_step w 0 past p in (
       unloads-due w past,
       (tokens_unloaded s.rest, sym (flat_map-append token_unloaded (jobs_given past) s.rest) ∙ ap tokens_unloaded (sym s.given) ∙ unloads-due w past),
     )

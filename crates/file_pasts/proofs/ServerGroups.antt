@@ -53,11 +53,11 @@ module _ (kind : CopyKind) (bytes : List ℕ) (content : Descriptor → List ℕ
       let c = counts kind bytes run past p.1 before n f in
       by_handled (handled kind past) refl c (brought past p.1 before n f g)
     where
-    by_handled : (o : Option Request) → handled kind past ≡ o → Counts kind past → Brought kind content past → Brought kind content (Asked m ∷ past)
-    by_handled None h c b = λ i d r e k.
-        (let few = c.in_hand in let z : jobs_in_hand past ≡ 0 = omega (arith, few, ap length (nothing_due kind past h)) in
-        absurd (not_yet kind past i (jobs_given past - jobs_in_hand past) r c z (omega (arith, z)) k))
-    by_handled (Some q) h c b = λ i d r e k. b i d r (ap (λ (w : List Work). slice_get w i) (sym (due-asked kind m past q h)) ∙ e) k
+      by_handled : (o : Option Request) → handled kind past ≡ o → Counts kind past → Brought kind content past → Brought kind content (Asked m ∷ past)
+      by_handled None h c b = λ i d r e k.
+          (let few = c.in_hand in let z : jobs_in_hand past ≡ 0 = omega (arith, few, ap length (nothing_due kind past h)) in
+          absurd (not_yet kind past i (jobs_given past - jobs_in_hand past) r c z (omega (arith, z)) k))
+      by_handled (Some q) h c b = λ i d r e k. b i d r (ap (λ (w : List Work). slice_get w i) (sym (due-asked kind m past q h)) ∙ e) k
   brought (Filled x ∷ past) p a n f g =
       let before : AsksFor run past = record { asked = a.asked; read = a.read } in
       let c = counts kind bytes run past p.1 before n f.1 in
@@ -72,23 +72,26 @@ module _ (kind : CopyKind) (bytes : List ℕ) (content : Descriptor → List ℕ
       λ i d r e k. brought past p.1 before n f g i d r (ap (λ (t : List Work). slice_get t i) (sym (due-gave kind work past)) ∙ e) (ap (λ (x : ℕ). result_at (x + i) past) (sym same) ∙ k)
   brought (Completed c ∷ past) p a n f g =
       by_number (brought past p.1 (record { asked = a.asked; read = a.read }) n.1 f g.1) where
-    same_work : (x y : Work) → Some x ≡ Some y → x ≡ y
-    same_work x y h = cc
-    same_result : (x y : WorkResult) → Some x ≡ Some y → y ≡ x
-    same_result x y h = cc
-    answered : (i : ℕ) (d : Descriptor) → c.number ≡ jobs_given past - jobs_in_hand past + i → slice_get (jobs_due kind past) i ≡ Some (Fetch d) → c.result ≡ Fetched (content d)
-    answered i d e h =
-        let place : p.0.place ≡ i = (let x = p.0.number in omega (arith, x, e)) in
-        let work_is : p.0.work ≡ Fetch d = same_work p.0.work (Fetch d) (sym p.0.work_is ∙ ap (slice_get (jobs_due kind past)) place ∙ h) in
-        let b = fetch_result p.0.work c.result d work_is p.0.fits n.0 in
-        b.1 ∙ ap (λ (x : List ℕ). Fetched x) (g.0 p.0 d b.0 work_is b.1)
-    by_number : Brought kind content past → Brought kind content (Completed c ∷ past)
-    by_number b = λ i d r f k. let e : slice_get (jobs_due kind past) i ≡ Some (Fetch d) = ap (λ (t : List Work). slice_get t i) (sym (due-completed kind c past)) ∙ f in by_test i d r e (c.number == jobs_given past - jobs_in_hand past + i) refl k (λ h. b i d r e h) where
-      by_test : (i : ℕ) (d : Descriptor) (r : WorkResult) → slice_get (jobs_due kind past) i ≡ Some (Fetch d) → (t : Bool) → (c.number == jobs_given past - jobs_in_hand past + i) ≡ t
-          → cond t (Some c.result) (result_at (jobs_given past - jobs_in_hand past + i) past) ≡ Some r
-          → (result_at (jobs_given past - jobs_in_hand past + i) past ≡ Some r → r ≡ Fetched (content d)) → r ≡ Fetched (content d)
-      by_test i d r e true h k ih = (let x : c.number ≡ jobs_given past - jobs_in_hand past + i = grind (arith, nat_tests) in same_result c.result r k ∙ answered i d x e)
-      by_test i d r e false h k ih = ih k
+        same_work : (x y : Work) → Some x ≡ Some y → x ≡ y
+        same_work x y h = cc
+
+        same_result : (x y : WorkResult) → Some x ≡ Some y → y ≡ x
+        same_result x y h = cc
+
+        answered : (i : ℕ) (d : Descriptor) → c.number ≡ jobs_given past - jobs_in_hand past + i → slice_get (jobs_due kind past) i ≡ Some (Fetch d) → c.result ≡ Fetched (content d)
+        answered i d e h =
+            let place : p.0.place ≡ i = (let x = p.0.number in omega (arith, x, e)) in
+            let work_is : p.0.work ≡ Fetch d = same_work p.0.work (Fetch d) (sym p.0.work_is ∙ ap (slice_get (jobs_due kind past)) place ∙ h) in
+            let b = fetch_result p.0.work c.result d work_is p.0.fits n.0 in
+            b.1 ∙ ap (λ (x : List ℕ). Fetched x) (g.0 p.0 d b.0 work_is b.1)
+
+        by_number : Brought kind content past → Brought kind content (Completed c ∷ past)
+        by_number b = λ i d r f k. let e : slice_get (jobs_due kind past) i ≡ Some (Fetch d) = ap (λ (t : List Work). slice_get t i) (sym (due-completed kind c past)) ∙ f in by_test i d r e (c.number == jobs_given past - jobs_in_hand past + i) refl k (λ h. b i d r e h) where
+          by_test : (i : ℕ) (d : Descriptor) (r : WorkResult) → slice_get (jobs_due kind past) i ≡ Some (Fetch d) → (t : Bool) → (c.number == jobs_given past - jobs_in_hand past + i) ≡ t
+              → cond t (Some c.result) (result_at (jobs_given past - jobs_in_hand past + i) past) ≡ Some r
+              → (result_at (jobs_given past - jobs_in_hand past + i) past ≡ Some r → r ≡ Fetched (content d)) → r ≡ Fetched (content d)
+          by_test i d r e true h k ih = (let x : c.number ≡ jobs_given past - jobs_in_hand past + i = grind (arith, nat_tests) in same_result c.result r k ∙ answered i d x e)
+          by_test i d r e false h k ih = ih k
   brought (Replied q ∷ past) p a n f g =
       let c = counts kind bytes run past p.1 (record { asked = a.asked; read = a.read }) n f in
       λ i d r e k. absurd (let x : jobs_given past - 0 + i < jobs_given past = c.numbers (jobs_given past - 0 + i) r k in let b : ⊥ = omega arith in b)
@@ -107,17 +110,18 @@ collected content n (d ∷ ds) past found e h =
     by_parts (result_at n past) (results_from (n + 1) (map (λ (x : Descriptor). Fetch x) ds) past) refl refl e
     (λ later k. collected content (n + 1) ds past later k (λ i x r a b. h (suc i) x r a (ap (λ (m : ℕ). result_at m past) (let z : n + suc i ≡ n + 1 + i = omega arith in z) ∙ b)))
   where
-  same : (xs ys : List WorkResult) → Some xs ≡ Some ys → ys ≡ xs
-  same xs ys k = cc
-  by_parts : (o : Option WorkResult) (l : Option (List WorkResult)) → result_at n past ≡ o → results_from (n + 1) (map (λ (x : Descriptor). Fetch x) ds) past ≡ l → result_in_front o l ≡ Some found
-      → ((later : List WorkResult) → results_from (n + 1) (map (λ (x : Descriptor). Fetch x) ds) past ≡ Some later → flat_map fetched later ≡ flat_map content ds)
-      → flat_map fetched found ≡ content d ++ flat_map content ds
-  by_parts None l p q k ih = absurd (let b : ⊥ = cc in b)
-  by_parts (Some r) None p q k ih = absurd (let b : ⊥ = cc in b)
-  by_parts (Some r) (Some later) p q k ih =
-      ap (flat_map fetched) (same (r ∷ later) found k)
-      ∙ ap (λ (x : WorkResult). fetched x ++ flat_map fetched later) (h 0 d r refl (ap (λ (m : ℕ). result_at m past) (let z : n + 0 ≡ n = omega arith in z) ∙ p))
-      ∙ ap (λ (t : List ℕ). content d ++ t) (ih later q)
+    same : (xs ys : List WorkResult) → Some xs ≡ Some ys → ys ≡ xs
+    same xs ys k = cc
+
+    by_parts : (o : Option WorkResult) (l : Option (List WorkResult)) → result_at n past ≡ o → results_from (n + 1) (map (λ (x : Descriptor). Fetch x) ds) past ≡ l → result_in_front o l ≡ Some found
+        → ((later : List WorkResult) → results_from (n + 1) (map (λ (x : Descriptor). Fetch x) ds) past ≡ Some later → flat_map fetched later ≡ flat_map content ds)
+        → flat_map fetched found ≡ content d ++ flat_map content ds
+    by_parts None l p q k ih = absurd (let b : ⊥ = cc in b)
+    by_parts (Some r) None p q k ih = absurd (let b : ⊥ = cc in b)
+    by_parts (Some r) (Some later) p q k ih =
+        ap (flat_map fetched) (same (r ∷ later) found k)
+        ∙ ap (λ (x : WorkResult). fetched x ++ flat_map fetched later) (h 0 d r refl (ap (λ (m : ℕ). result_at m past) (let z : n + 0 ≡ n = omega arith in z) ∙ p))
+        ∙ ap (λ (t : List ℕ). content d ++ t) (ih later q)
 
 -- the group of the request that is handled, once its results are there
 in_hand : (kind : CopyKind) (bytes : List ℕ) (content : Descriptor → List ℕ) (run : List Request) (past : List ServerEvent) (q : Request) (works : List WorkResult)
@@ -130,30 +134,35 @@ in_hand kind bytes content run past q works s n b h w =
     ∙ ap (group_of q) w
     ∙ by_op (q.op == 1) refl (q.channel == 0) refl
   where
-  done : status_of works ≡ 0
-  done = results-done _ (jobs_due kind past) past works n w
-  not_both : (m : ℕ) → (m == 1) ≡ true → (m == 2) ≡ true → ⊥
-  not_both m a b = (let x : m ≡ 1 = grind (arith, nat_tests) in let y : m ≡ 2 = grind (arith, nat_tests) in omega (arith, x, y))
-  due : (q.op == 1) ≡ true → jobs_due kind past ≡ map (λ (d : Descriptor). Fetch d) q.descriptors
-  due e = by_due (due_of kind bytes run past q s h) where
-    by_due : (jobs_due kind past ≡ jobs_needed bytes q) ⊎ ((jobs_due kind past ≡ []) × (source_in_hand past ≡ None) × ((q.op == 2) ≡ true)) → jobs_due kind past ≡ map (λ (d : Descriptor). Fetch d) q.descriptors
-    by_due (inl d) = d ∙ ap (λ (t : Bool). cond t (map (λ (x : Descriptor). Fetch x) q.descriptors) (cond (q.op == 2) (places_of q.descriptors (bytes_read bytes q)) [])) e
-    by_due (inr d) = absurd (not_both q.op e d.2)
-  got : (ds : List Descriptor) (i : ℕ) (d : Descriptor) → slice_get ds i ≡ Some d → slice_get (map (λ (x : Descriptor). Fetch x) ds) i ≡ Some (Fetch d)
-  got [] i d e = absurd (let b : ⊥ = cc in b)
-  got (x ∷ xs) zero d e = ap (λ (o : Option Descriptor). elim o [ None ↦ None | Some y ↦ Some (Fetch y) ]) e
-  got (x ∷ xs) (suc i) d e = got xs i d e
-  brings : (q.op == 1) ≡ true → flat_map fetched works ≡ flat_map content q.descriptors
-  brings e =
-      collected content (jobs_given past - jobs_in_hand past) q.descriptors past works
-      (ap (λ (t : List Work). results_from (jobs_given past - jobs_in_hand past) t past) (sym (due e)) ∙ w)
-      (λ i d r a k. b i d r (ap (λ (t : List Work). slice_get t i) (due e) ∙ got q.descriptors i d a) k)
-  by_op : (a : Bool) → (q.op == 1) ≡ a → (c : Bool) → (q.channel == 0) ≡ c
-      → cond (a && status_of works == 0) (cond c q.inline (flat_map fetched works) ∷ []) [] ≡ cond a (cond c q.inline (flat_map content q.descriptors) ∷ []) []
-  by_op false e c k = refl
-  by_op true e c k =
-      ap (λ (t : ℕ). cond (t == 0) (cond c q.inline (flat_map fetched works) ∷ []) []) done
-      ∙ ap (λ (x : List ℕ). cond c q.inline x ∷ []) (brings e)
+    done : status_of works ≡ 0
+    done = results-done _ (jobs_due kind past) past works n w
+
+    not_both : (m : ℕ) → (m == 1) ≡ true → (m == 2) ≡ true → ⊥
+    not_both m a b = (let x : m ≡ 1 = grind (arith, nat_tests) in let y : m ≡ 2 = grind (arith, nat_tests) in omega (arith, x, y))
+
+    due : (q.op == 1) ≡ true → jobs_due kind past ≡ map (λ (d : Descriptor). Fetch d) q.descriptors
+    due e = by_due (due_of kind bytes run past q s h) where
+      by_due : (jobs_due kind past ≡ jobs_needed bytes q) ⊎ ((jobs_due kind past ≡ []) × (source_in_hand past ≡ None) × ((q.op == 2) ≡ true)) → jobs_due kind past ≡ map (λ (d : Descriptor). Fetch d) q.descriptors
+      by_due (inl d) = d ∙ ap (λ (t : Bool). cond t (map (λ (x : Descriptor). Fetch x) q.descriptors) (cond (q.op == 2) (places_of q.descriptors (bytes_read bytes q)) [])) e
+      by_due (inr d) = absurd (not_both q.op e d.2)
+
+    got : (ds : List Descriptor) (i : ℕ) (d : Descriptor) → slice_get ds i ≡ Some d → slice_get (map (λ (x : Descriptor). Fetch x) ds) i ≡ Some (Fetch d)
+    got [] i d e = absurd (let b : ⊥ = cc in b)
+    got (x ∷ xs) zero d e = ap (λ (o : Option Descriptor). elim o [ None ↦ None | Some y ↦ Some (Fetch y) ]) e
+    got (x ∷ xs) (suc i) d e = got xs i d e
+
+    brings : (q.op == 1) ≡ true → flat_map fetched works ≡ flat_map content q.descriptors
+    brings e =
+        collected content (jobs_given past - jobs_in_hand past) q.descriptors past works
+        (ap (λ (t : List Work). results_from (jobs_given past - jobs_in_hand past) t past) (sym (due e)) ∙ w)
+        (λ i d r a k. b i d r (ap (λ (t : List Work). slice_get t i) (due e) ∙ got q.descriptors i d a) k)
+
+    by_op : (a : Bool) → (q.op == 1) ≡ a → (c : Bool) → (q.channel == 0) ≡ c
+        → cond (a && status_of works == 0) (cond c q.inline (flat_map fetched works) ∷ []) [] ≡ cond a (cond c q.inline (flat_map content q.descriptors) ∷ []) []
+    by_op false e c k = refl
+    by_op true e c k =
+        ap (λ (t : ℕ). cond (t == 0) (cond c q.inline (flat_map fetched works) ∷ []) []) done
+        ∙ ap (λ (x : List ℕ). cond c q.inline x ∷ []) (brings e)
 
 -- ---- groups
 
@@ -172,32 +181,34 @@ there : (kind : CopyKind) (bytes : List ℕ) (content : Descriptor → List ℕ)
 there kind bytes content run past s n b e = by_handled (handled kind past) refl where
   all : List (List ℕ)
   all = flat_map (group_carried content) run
+
   none : group_in_hand kind past ≡ [] → IsPrefix (groups_replied kind past ++ group_in_hand kind past) all
   none h = (
     flat_map (group_carried content) (drop (length (replies past)) run),
     ap (λ (t : List (List ℕ)). (groups_replied kind past ++ t) ++ flat_map (group_carried content) (drop (length (replies past)) run)) h
-      ∙ ap (λ (t : List (List ℕ)). t ++ flat_map (group_carried content) (drop (length (replies past)) run)) (append-nil (groups_replied kind past) ∙ e)
-      ∙ sym (whole (group_carried content) (length (replies past)) run),
+        ∙ ap (λ (t : List (List ℕ)). t ++ flat_map (group_carried content) (drop (length (replies past)) run)) (append-nil (groups_replied kind past) ∙ e)
+        ∙ sym (whole (group_carried content) (length (replies past)) run),
   )
+
   by_handled : (o : Option Request) → handled kind past ≡ o → IsPrefix (groups_replied kind past ++ group_in_hand kind past) all
   by_handled None h = none (ap (λ (o : Option Request). group_if_handled kind o past) h)
   by_handled (Some q) h = by_results (results kind past) refl where
     at : slice_get run (length (replies past)) ≡ Some q
     at = get_of_front (length (requests kind past).accepted) run (length (replies past)) q (ap (λ (t : List Request). slice_get t (length (replies past))) (sym s.accepted) ∙ h)
+
     by_results : (o : Option (List WorkResult)) → results kind past ≡ o → IsPrefix (groups_replied kind past ++ group_in_hand kind past) all
     by_results None w = none (
-      ap (λ (o : Option Request). group_if_handled kind o past) h
+        ap (λ (o : Option Request). group_if_handled kind o past) h
         ∙ ap (λ (t : ℕ). cond (t == 0) (group_of q (results kind past)) []) (standing-none kind bytes run past s)
         ∙ ap (group_of q) w)
     by_results (Some works) w =
         let front : List (List ℕ) = flat_map (group_carried content) (take (length (replies past)) run) in
-        let later : List (List ℕ) = flat_map (group_carried content) (drop (suc (length (replies past))) run) in
-        (
+        let later : List (List ℕ) = flat_map (group_carried content) (drop (suc (length (replies past))) run) in (
           later,
           ap (λ (t : List (List ℕ)). (groups_replied kind past ++ t) ++ later) (in_hand kind bytes content run past q works s n b h w)
-          ∙ ap (λ (t : List (List ℕ)). (t ++ group_carried content q) ++ later) e
-          ∙ append_assoc front (group_carried content q) later
-          ∙ sym (split_at (group_carried content) (length (replies past)) run q at),
+              ∙ ap (λ (t : List (List ℕ)). (t ++ group_carried content q) ++ later) e
+              ∙ append_assoc front (group_carried content q) later
+              ∙ sym (split_at (group_carried content) (length (replies past)) run q at),
         )
 
 groups : (kind : CopyKind) (bytes : List ℕ) (content : Descriptor → List ℕ) (run : List Request) (past : List ServerEvent) → IsServer kind past → AsksFor run past → NothingRefused past
@@ -230,7 +241,8 @@ groups kind bytes content run (Replied r ∷ past) p a n f g =
           (in_hand kind bytes content run past d.0 w.0 s n (brought kind bytes content run past p.1 before n f g) d.1 w.1 ∙ sym (append-nil (group_carried content d.0)))
           ∙ sym (flat_map-append (group_carried content) (take k run) (d.0 ∷ []))
           ∙ ap (flat_map (group_carried content)) (sym (take_one_more k run d.0 at) ∙ ap (λ (i : ℕ). take i run) (sym more));
-      given = x.given; stored = x.stored;
+      given = x.given;
+      stored = x.stored;
     }
 groups kind bytes content run (Stored b ∷ past) p a n f g =
     let before : AsksFor run past = record { asked = a.asked; read = a.read } in
@@ -239,9 +251,9 @@ groups kind bytes content run (Stored b ∷ past) p a n f g =
     let k : ℕ = length (groups_given past) in
     let more : length (groups_given past ++ b ∷ []) ≡ suc k = length-append (groups_given past) (b ∷ []) ∙ add-one k in
     let at : slice_get (flat_map (group_carried content) run) k ≡ Some b =
-        ap (slice_get (flat_map (group_carried content) run)) (sym x.stored)
-        ∙ ap (λ (t : List (List ℕ)). slice_get t (groups_stored past)) (sym front.1)
-        ∙ get_in_front (groups_replied kind past ++ group_in_hand kind past) front.0 (groups_stored past) b p.0 in
+    ap (slice_get (flat_map (group_carried content) run)) (sym x.stored)
+    ∙ ap (λ (t : List (List ℕ)). slice_get t (groups_stored past)) (sym front.1)
+    ∙ get_in_front (groups_replied kind past ++ group_in_hand kind past) front.0 (groups_stored past) b p.0 in
     record {
       replied = x.replied;
       given = ap (λ (t : List (List ℕ)). t ++ b ∷ []) x.given ∙ sym (take_one_more k (flat_map (group_carried content) run) b at)
@@ -300,12 +312,13 @@ put_servers_store channel pages ended bytes content past pool few p a n f g h =
     subst (λ (gs : List (List ℕ)). IsPrefix (groups_given past) gs) carried
     (servers_store kinds.Put bytes content (put_requests channel pages ended bytes) past p (record { asked = a; read = puts_read channel pages ended bytes pool few }) n f g)
   where
-  last : (t : Bool) (k offset : ℕ) → flat_map (group_carried content) (end_if t (end_request k offset)) ≡ []
-  last true k offset = refl
-  last false k offset = refl
-  carried : flat_map (group_carried content) (put_requests channel pages ended bytes) ≡ groups_of bytes
-  carried =
-      flat_map-append (group_carried content) (writes_from channel (windows pages) 1 0 (groups_of bytes)) (end_if ended (end_request (length (groups_of bytes) + 1) (length bytes)))
-      ∙ ap (λ (t : List (List ℕ)). flat_map (group_carried content) (writes_from channel (windows pages) 1 0 (groups_of bytes)) ++ t) (last ended (length (groups_of bytes) + 1) (length bytes))
-      ∙ append-nil (flat_map (group_carried content) (writes_from channel (windows pages) 1 0 (groups_of bytes)))
-      ∙ carried-writes channel content (windows pages) 0 (groups_of bytes) h
+    last : (t : Bool) (k offset : ℕ) → flat_map (group_carried content) (end_if t (end_request k offset)) ≡ []
+    last true k offset = refl
+    last false k offset = refl
+
+    carried : flat_map (group_carried content) (put_requests channel pages ended bytes) ≡ groups_of bytes
+    carried =
+        flat_map-append (group_carried content) (writes_from channel (windows pages) 1 0 (groups_of bytes)) (end_if ended (end_request (length (groups_of bytes) + 1) (length bytes)))
+        ∙ ap (λ (t : List (List ℕ)). flat_map (group_carried content) (writes_from channel (windows pages) 1 0 (groups_of bytes)) ++ t) (last ended (length (groups_of bytes) + 1) (length bytes))
+        ∙ append-nil (flat_map (group_carried content) (writes_from channel (windows pages) 1 0 (groups_of bytes)))
+        ∙ carried-writes channel content (windows pages) 0 (groups_of bytes) h

@@ -56,15 +56,16 @@ results-done n [] past found h e = ap status_of (none found e) where
   none f k = cc
 results-done n (work ∷ works) past found h e =
     by_parts (result_at n past) (results_from (n + 1) works past) refl refl e (λ later k. results-done (n + 1) works past later h k) where
-  same : (xs ys : List WorkResult) → Some xs ≡ Some ys → xs ≡ ys
-  same xs ys k = cc
-  by_parts : (o : Option WorkResult) (l : Option (List WorkResult)) → result_at n past ≡ o → results_from (n + 1) works past ≡ l → result_in_front o l ≡ Some found
-      → ((later : List WorkResult) → results_from (n + 1) works past ≡ Some later → status_of later ≡ 0) → status_of found ≡ 0
-  by_parts None l p q k ih = absurd (let b : ⊥ = cc in b)
-  by_parts (Some r) None p q k ih = absurd (let b : ⊥ = cc in b)
-  by_parts (Some r) (Some later) p q k ih =
-      ap status_of (sym (same (r ∷ later) found k))
-      ∙ ap (λ (s : ℕ). cond (s == 0) (status_of later) s) (result-done n past r h p) ∙ ih later q
+      same : (xs ys : List WorkResult) → Some xs ≡ Some ys → xs ≡ ys
+      same xs ys k = cc
+
+      by_parts : (o : Option WorkResult) (l : Option (List WorkResult)) → result_at n past ≡ o → results_from (n + 1) works past ≡ l → result_in_front o l ≡ Some found
+          → ((later : List WorkResult) → results_from (n + 1) works past ≡ Some later → status_of later ≡ 0) → status_of found ≡ 0
+      by_parts None l p q k ih = absurd (let b : ⊥ = cc in b)
+      by_parts (Some r) None p q k ih = absurd (let b : ⊥ = cc in b)
+      by_parts (Some r) (Some later) p q k ih =
+          ap status_of (sym (same (r ∷ later) found k))
+          ∙ ap (λ (s : ℕ). cond (s == 0) (status_of later) s) (result-done n past r h p) ∙ ih later q
 
 -- ---- by induction on the past
 
@@ -96,13 +97,19 @@ unfolding Accepts
 accepts kind accepted (Some f) given m r e = inr (f, refl)
 accepts kind accepted None given m r e =
     by_turn (is_out_of_turn kind accepted given r) refl where
-  by_turn : (t : Bool) → is_out_of_turn kind accepted given r ≡ t
-      → (with_judged (judged kind accepted given (request_of m)) (record { accepted = accepted; fault = None }) ≡ record { accepted = accepted ++ r ∷ []; fault = None }) × (◌≡◌ {A = Option FileFault} None None)
-      ⊎ ((f : FileFault) × (with_judged (judged kind accepted given (request_of m)) (record { accepted = accepted; fault = None }) ≡ record { accepted = accepted; fault = Some f }))
-  by_turn true h = inr (Order, ap (λ (x : Result Request FileFault). with_judged (judged kind accepted given x) (record { accepted = accepted; fault = None })) e
-      ∙ ap (λ (t : Bool). with_judged (cond t (Err Order) (Ok r)) (record { accepted = accepted; fault = None })) h)
-  by_turn false h = inl (ap (λ (x : Result Request FileFault). with_judged (judged kind accepted given x) (record { accepted = accepted; fault = None })) e
-      ∙ ap (λ (t : Bool). with_judged (cond t (Err Order) (Ok r)) (record { accepted = accepted; fault = None })) h, refl)
+      by_turn : (t : Bool) → is_out_of_turn kind accepted given r ≡ t
+          → (with_judged (judged kind accepted given (request_of m)) (record { accepted = accepted; fault = None }) ≡ record { accepted = accepted ++ r ∷ []; fault = None }) × (◌≡◌ {A = Option FileFault} None None)
+          ⊎ ((f : FileFault) × (with_judged (judged kind accepted given (request_of m)) (record { accepted = accepted; fault = None }) ≡ record { accepted = accepted; fault = Some f }))
+      by_turn true h = inr (
+        Order,
+        ap (λ (x : Result Request FileFault). with_judged (judged kind accepted given x) (record { accepted = accepted; fault = None })) e
+            ∙ ap (λ (t : Bool). with_judged (cond t (Err Order) (Ok r)) (record { accepted = accepted; fault = None })) h,
+      )
+      by_turn false h = inl (
+        ap (λ (x : Result Request FileFault). with_judged (judged kind accepted given x) (record { accepted = accepted; fault = None })) e
+            ∙ ap (λ (t : Bool). with_judged (cond t (Err Order) (Ok r)) (record { accepted = accepted; fault = None })) h,
+        refl,
+      )
 
 serves-asked : (kind : CopyKind) (bytes : List ℕ) (run : List Request) (m : List ℕ) (past : List ServerEvent) (r : Request) → slice_get run (length (messages_asked past)) ≡ Some r
     → Serves kind bytes run past
@@ -136,8 +143,8 @@ serves-asked kind bytes run m past r at s (inr e) =
       source = λ b h. (let x = s.source b h in (x.0, ap (λ (t : List Request). slice_get t (length (replies past))) now ∙ x.1, x.2));
     }
   where
-  both : {o : Option FileFault} → o ≡ None → o ≡ Some e.0 → ⊥
-  both p q = cc
+    both : {o : Option FileFault} → o ≡ None → o ≡ Some e.0 → ⊥
+    both p q = cc
 
 -- the reply that is due is the reply to the request that is handled
 pub due_reply : (kind : CopyKind) (bytes : List ℕ) (run : List Request) (past : List ServerEvent) (r : Reply) → Serves kind bytes run past → NothingRefused past → next_reply kind past ≡ Some r
@@ -145,8 +152,10 @@ pub due_reply : (kind : CopyKind) (bytes : List ℕ) (run : List Request) (past 
 due_reply kind bytes run past r s n e = by_handled (handled kind past) refl e where
   standing : standing_status past ≡ 0
   standing = ap first_status s.replied ∙ first_status-front (length (replies past)) bytes run
+
   same : (x y : Reply) → Some x ≡ Some y → y ≡ x
   same x y h = cc
+
   by_op : (q : Request) (a b : Bool) (o : Option (List ℕ)) → source_in_hand past ≡ o → handled kind past ≡ Some q
       → cond a (Some (success q q.length [])) (cond b (option_map (read_reply q) o) (Some (success q 0 []))) ≡ Some r
       → r ≡ cond a (success q q.length []) (cond b (reply_to_read bytes q) (success q 0 []))
@@ -158,19 +167,24 @@ due_reply kind bytes run past r s n e = by_handled (handled kind past) refl e wh
       let q_is : y.0 ≡ q = one y.0 q (sym y.1 ∙ h) in
       same _ r k ∙ ap (read_reply q) (y.2 ∙ ap (bytes_read bytes) q_is)
     where
-    one : (a b : Request) → Some a ≡ Some b → a ≡ b
-    one a b h = cc
+      one : (a b : Request) → Some a ≡ Some b → a ≡ b
+      one a b h = cc
+
   by_works : (q : Request) (w : Option (List WorkResult)) → results kind past ≡ w → handled kind past ≡ Some q → answer_with q (source_in_hand past) w ≡ Some r → r ≡ reply_to bytes q
   by_works q None p h k = absurd (let x : ⊥ = cc in x)
   by_works q (Some works) p h k =
       let done : status_of works ≡ 0 = results-done _ (jobs_due kind past) past works n p in
       by_op q (q.op == 1) (q.op == 2) (source_in_hand past) refl h
       (ap (λ (t : ℕ). cond (not (t == 0)) (Some (refusal q t)) (cond (q.op == 1) (Some (success q q.length [])) (cond (q.op == 2) (option_map (read_reply q) (source_in_hand past)) (Some (success q 0 []))))) (sym done) ∙ k)
+
   by_handled : (o : Option Request) → handled kind past ≡ o → reply_if_handled kind o past ≡ Some r → (q : Request) × (handled kind past ≡ Some q) × (r ≡ reply_to bytes q)
   by_handled None p h = absurd (let x : ⊥ = cc in x)
-  by_handled (Some q) p h =
-      (q, p, by_works q (results kind past) refl p
-      (ap (λ (t : ℕ). cond (t == 0) (answer_with q (source_in_hand past) (results kind past)) (Some (refusal q t))) (sym standing) ∙ h))
+  by_handled (Some q) p h = (
+    q,
+    p,
+    by_works q (results kind past) refl p
+        (ap (λ (t : ℕ). cond (t == 0) (answer_with q (source_in_hand past) (results kind past)) (Some (refusal q t))) (sym standing) ∙ h),
+  )
 
 serves-replied : (kind : CopyKind) (bytes : List ℕ) (run : List Request) (r : Reply) (past : List ServerEvent) → Serves kind bytes run past → NothingRefused past → next_reply kind past ≡ Some r
     → Serves kind bytes run (Replied r ∷ past)
@@ -180,7 +194,9 @@ serves-replied kind bytes run r past s n e =
     let more : length (replies past ++ r ∷ []) ≡ suc k = length-append (replies past) (r ∷ []) ∙ add-one k in
     let at : slice_get run k ≡ Some d.0 = get_of_front (length (requests kind past).accepted) run k d.0 (ap (λ (t : List Request). slice_get t k) (sym s.accepted) ∙ d.1) in
     record {
-      accepted = s.accepted; in_turn = s.in_turn; at_most = s.at_most;
+      accepted = s.accepted;
+      in_turn = s.in_turn;
+      at_most = s.at_most;
       replied = ap (λ (t : List Reply). t ++ r ∷ []) s.replied ∙ ap (λ (x : Reply). take k (replies_to bytes run) ++ x ∷ []) d.2
           ∙ sym (take_one_more k (replies_to bytes run) (reply_to bytes d.0) (get_of_map (reply_to bytes) run k d.0 at))
           ∙ ap (λ (i : ℕ). take i (replies_to bytes run)) (sym more);
@@ -191,7 +207,11 @@ serves-replied kind bytes run r past s n e =
 serves-filled : (kind : CopyKind) (bytes : List ℕ) (run : List Request) (b : List ℕ) (past : List ServerEvent) (most : ℕ) → Serves kind bytes run past → wants_source kind past ≡ Some most
     → ((r : Request) → handled kind past ≡ Some r → b ≡ bytes_read bytes r) → Serves kind bytes run (Filled b ∷ past)
 serves-filled kind bytes run b past most s w f = record {
-  accepted = s.accepted; in_turn = s.in_turn; at_most = s.at_most; replied = s.replied; few = s.few;
+  accepted = s.accepted;
+  in_turn = s.in_turn;
+  at_most = s.at_most;
+  replied = s.replied;
+  few = s.few;
   source = λ c h. by_handled (handled kind past) refl w c (let x : b ≡ c = cc in x);
 } where
   by_handled : (o : Option Request) → handled kind past ≡ o → source_for o past ≡ Some most → (c : List ℕ) → b ≡ c → (q : Request) × (handled kind past ≡ Some q) × (c ≡ bytes_read bytes q)
@@ -202,7 +222,12 @@ pub serves : (kind : CopyKind) (bytes : List ℕ) (run : List Request) (past : L
     → Serves kind bytes run past
 unfolding Accepts
 serves kind bytes run [] p a n f = record {
-  accepted = refl; in_turn = λ h. refl; at_most = omega arith; replied = refl; few = omega arith; source = λ b h. absurd (let x : ⊥ = cc in x);
+  accepted = refl;
+  in_turn = λ h. refl;
+  at_most = omega arith;
+  replied = refl;
+  few = omega arith;
+  source = λ b h. absurd (let x : ⊥ = cc in x);
 }
 serves kind bytes run (Asked m ∷ past) p a n f =
     let before : AsksFor run past = record { asked = prefix_before (messages_asked past) m _ a.asked; read = a.read } in
