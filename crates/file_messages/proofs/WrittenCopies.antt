@@ -32,8 +32,8 @@ all-sound page (d ∷ ds) o few =
     let b : nat_lt (end_of d) (2 ^ 64) ≡ true = (let x : end_of d < 2 ^ 64 = omega (arith, o.0, o.2) in grind (arith, nat_tests)) in
     both (nat_lt 0 d.length) (nat_lt (end_of d) (2 ^ 64)) (are_sound ds) a b (all-sound (page + 1) ds o.4 (omega arith))
   where
-  both : (x y z : Bool) → x ≡ true → y ≡ true → z ≡ true → ((x && y) && z) ≡ true
-  both x y z p q r = rw (p, q, r) refl
+    both : (x y z : Bool) → x ≡ true → y ≡ true → z ≡ true → ((x && y) && z) ≡ true
+    both x y z p q r = rw (p, q, r) refl
 
 shares-none : (d : Descriptor) (page : ℕ) (ds : List Descriptor) → OnPages page ds → end_of d ≤ page * 4096 → shares_with d ds ≡ false
 unfolding OnPages
@@ -42,9 +42,9 @@ shares-none d page (f ∷ ds) o e =
     let after : nat_lt f.offset (end_of d) ≡ false = (let x : end_of d ≤ f.offset = omega (arith, o.0) in grind (arith, nat_tests)) in
     by_parts (nat_lt d.offset (end_of f)) (nat_lt f.offset (end_of d)) (shares_with d ds) after (shares-none d (page + 1) ds o.4 (omega arith))
   where
-  by_parts : (x y z : Bool) → y ≡ false → z ≡ false → ((x && y) || z) ≡ false
-  by_parts true y z p q = rw (p, q) refl
-  by_parts false y z p q = q
+    by_parts : (x y z : Bool) → y ≡ false → z ≡ false → ((x && y) || z) ≡ false
+    by_parts true y z p q = rw (p, q) refl
+    by_parts false y z p q = q
 
 none-overlap : (page : ℕ) (ds : List Descriptor) → OnPages page ds → overlap ds ≡ false
 unfolding OnPages
@@ -52,12 +52,17 @@ none-overlap page [] o = refl
 none-overlap page (d ∷ ds) o =
     by_parts (shares_with d ds) (overlap ds) (shares-none d (page + 1) ds o.4 (omega (arith, o.0, o.2))) (none-overlap (page + 1) ds o.4)
   where
-  by_parts : (x y : Bool) → x ≡ false → y ≡ false → (x || y) ≡ false
-  by_parts x y p q = rw (p, q) refl
+    by_parts : (x y : Bool) → x ≡ false → y ≡ false → (x || y) ≡ false
+    by_parts x y p q = rw (p, q) refl
 
 named : (page : ℕ) (ds : List Descriptor) → OnPages page ds → page ≤ 4096 → 1 ≤ length ds → length ds ≤ 16 → IsLength (sum_of_lengths ds) → MayBeNamed ds
 named page ds o low some few bytes = record {
-  some = some; few = few; tokens = tokens-fit page ds o; sound = all-sound page ds o (omega arith); apart = none-overlap page ds o; bytes = bytes;
+  some = some;
+  few = few;
+  tokens = tokens-fit page ds o;
+  sound = all-sound page ds o (omega arith);
+  apart = none-overlap page ds o;
+  bytes = bytes;
 }
 
 -- ---- parts
@@ -168,9 +173,9 @@ puts_read channel pages ended bytes p c =
     (writes-read channel (windows pages) 1 0 (groups_of bytes) (omega arith) (omega arith) (omega (arith, size)) (omega (arith, size)) (lengths-of n 65536 bytes (lit≤ tt) (omega arith)))
     (last ended (ends_read (length (groups_of bytes) + 1) (length bytes) (record { id_fits = omega (arith, size); offset_fits = omega arith })))
   where
-  last : (t : Bool) → IsReadBack (end_request (length (groups_of bytes) + 1) (length bytes)) → AllReadBack (end_if t (end_request (length (groups_of bytes) + 1) (length bytes)))
-  last true r = (r, tt)
-  last false r = tt
+    last : (t : Bool) → IsReadBack (end_request (length (groups_of bytes) + 1) (length bytes)) → AllReadBack (end_if t (end_request (length (groups_of bytes) + 1) (length bytes)))
+    last true r = (r, tt)
+    last false r = tt
 
 -- ---- gets
 
