@@ -102,10 +102,10 @@ length-get channel bytes =
     length-append (reads_from channel (reads_count bytes) 1) (end_request (reads_count bytes + 1) (length bytes) ∷ []) ∙ ap (λ (x : ℕ). x + 1) (length-reads channel (reads_count bytes) 1)
 
 -- a request of a get is a READ, or END
-RunCase : Channel → List ℕ → ℕ → Request → Type 0
+unfoldable pub RunCase : Channel → List ℕ → ℕ → Request → Type 0
 RunCase channel bytes n r = ((n < reads_count bytes) × (r ≡ read_of channel (n + 1))) ⊎ ((n ≡ reads_count bytes) × (r ≡ end_request (reads_count bytes + 1) (length bytes)))
 
-run_case : (channel : Channel) (bytes : List ℕ) (n : ℕ) (r : Request) → slice_get (get_requests channel bytes) n ≡ Some r → RunCase channel bytes n r
+pub run_case : (channel : Channel) (bytes : List ℕ) (n : ℕ) (r : Request) → slice_get (get_requests channel bytes) n ≡ Some r → RunCase channel bytes n r
 unfolding RunCase
 run_case channel bytes n r e = by_place (nat_lt n (reads_count bytes)) refl where
   same : (x y : Request) → Some x ≡ Some y → y ≡ x

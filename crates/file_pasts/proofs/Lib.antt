@@ -14,3 +14,4 @@ pub mod ServerGroups
 pub mod GetTokens
 pub mod GetLaw
 pub mod GetPages
+pub mod GetGroups

@@ -8,7 +8,7 @@ use mathlib.Core.List.{IsPrefix}
 use Rattle.file_messages.specs.declared.kind.Channel.{Channel}
 use Rattle.file_messages.specs.declared.kind.Channel.TheVariants as channels
 use Rattle.file_messages.specs.Messages.{reply_bytes}
-use Rattle.file_messages.specs.Runs.{get_requests, replies_to, descriptor_of_load}
+use Rattle.file_messages.specs.Runs.{groups_of, get_requests, replies_to, descriptor_of_load}
 use Rattle.file_messages.specs.Written.{IsCopyable}
 use Rattle.file_pasts.specs.ClientPast.{ClientEvent, Group, End, Sent, Replied, Gave, Completed, Received, requests_sent, jobs_given, descriptors_on}
 use Rattle.file_pasts.specs.GetDue.{IsGet}
@@ -65,3 +65,21 @@ LoadsOwnRounds = (page turn : ℕ) (d : Descriptor) (past : List ClientEvent) �
 -- only tokens of READs that were replied to are unloaded
 abbrev pub GetUnloadsFollow : Type 0
 GetUnloadsFollow = (past : List ClientEvent) → IsGet channels.V1 past → IsPrefix (tokens_unloaded (jobs_given past)) (tokens_named (requests_replied past))
+
+-- ---- groups
+
+-- the groups that were given, the oldest first
+abbrev pub groups_taken : List ClientEvent → List (List ℕ)
+groups_taken [] = []
+groups_taken (Group bytes ∷ past) = groups_taken past
+groups_taken (End ∷ past) = groups_taken past
+groups_taken (Sent r ∷ past) = groups_taken past
+groups_taken (Replied m ∷ past) = groups_taken past
+groups_taken (Gave work ∷ past) = groups_taken past
+groups_taken (Completed c ∷ past) = groups_taken past
+groups_taken (Received bytes ∷ past) = groups_taken past ++ bytes ∷ []
+
+-- then what it gives is a front of the groups of these bytes
+abbrev pub GetsReceive : Type 0
+GetsReceive = (bytes : List ℕ) (past : List ClientEvent) → IsCopyable bytes → IsGet channels.None past → IsAnswered channels.None bytes past
+    → IsPrefix (groups_taken past) (groups_of bytes)

@@ -1,6 +1,6 @@
 //! Laws of the client of a get.
 
-ghost use Rattle.file_pasts.specs.GetLaws.{GetsAsk, RegisteredGetsAsk, JobsAreOfAGet, LoadsOwnRounds, GetUnloadsFollow};
+ghost use Rattle.file_pasts.specs.GetLaws.{GetsAsk, RegisteredGetsAsk, JobsAreOfAGet, LoadsOwnRounds, GetUnloadsFollow, GetsReceive};
 
 /// A get asks for its bytes in order: where the replies that were handed in are a front of those of a copy, what it sent is a
 /// front of the READs of that copy and its END. Over registered pages this holds where the pool gives each load of a page the
@@ -17,4 +17,10 @@ pub fn rounds_load_and_unload()
     ensures jobs { JobsAreOfAGet }
     ensures owned { LoadsOwnRounds }
     ensures unloads { GetUnloadsFollow }
+{}
+
+/// Without registered pages the groups that come of a get are a front of those of the bytes, where the replies that were
+/// handed in are a front of those of a copy.
+pub fn gets_receive_what_was_read()
+    ensures { GetsReceive }
 {}
