@@ -1,0 +1,26 @@
+//! Laws of the client of a get.
+
+ghost use Rattle.file_pasts.specs.GetLaws.{GetsAsk, RegisteredGetsAsk, JobsAreOfAGet, LoadsOwnRounds, GetUnloadsFollow, GetsReceive};
+
+/// A get asks for its bytes in order: where the replies that were handed in are a front of those of a copy, what it sent is a
+/// front of the READs of that copy and its END. Over registered pages this holds where the pool gives each load of a page the
+/// generation after that of the load before.
+pub fn gets_ask_for_their_bytes()
+    ensures inline { GetsAsk }
+    ensures registered { RegisteredGetsAsk }
+{}
+
+/// The jobs of a get over registered pages are Loads of zeros into its 16 pages, for the server to place in, and Unloads.
+/// Where the pool gives each load of a page the generation after that of the load before, a load has the descriptor by which
+/// the READ of its round names it; and only tokens of READs that were replied to are unloaded.
+pub fn rounds_load_and_unload()
+    ensures jobs { JobsAreOfAGet }
+    ensures owned { LoadsOwnRounds }
+    ensures unloads { GetUnloadsFollow }
+{}
+
+/// Without registered pages the groups that come of a get are a front of those of the bytes, where the replies that were
+/// handed in are a front of those of a copy.
+pub fn gets_receive_what_was_read()
+    ensures { GetsReceive }
+{}
