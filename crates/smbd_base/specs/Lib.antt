@@ -2,6 +2,7 @@ pub mod Fields
 pub mod Grant
 pub mod Limits
 pub mod DataFrame
+pub mod MessageBytes
 pub mod NegotiateMessages
 pub mod Pieces
 pub mod Counts

@@ -9,16 +9,23 @@ use std::sync::ArcSlice;
 /// (MS-SMBD 3.1.5.1). Contracts see the list of the bytes.
 #[derive(Clone, Debug, Drop)]
 pub struct Message {
-    bytes: ArcSlice<u8>,
+    bytes: Bytes,
+}
+
+/// Bytes that a message shares with its clones, or has for itself.
+#[derive(Clone, Debug, Drop)]
+enum Bytes {
+    Shared(ArcSlice<u8>),
+    Owned(Vec<u8>),
 }
 
 impl Model for Message {
     ghost use Rattle.std.specs.Prelude.{List, ℕ};
-    ghost use Rattle.std.specs.Arc.{arc_slice_items};
+    ghost use Rattle.smbd_base.specs.MessageBytes.{bytes_of};
 
     ghost Value = { List ℕ };
 
-    ghost view = { λ m. arc_slice_items m.bytes };
+    ghost view = { λ m. bytes_of m.bytes };
 }
 
 impl Message {
@@ -34,25 +41,37 @@ impl Message {
         ensures { IfOk result (λ m. m ≡ bytes.items) }
     {
         Ok(Message {
-            bytes: ArcSlice::from_vec(bytes)?,
+            bytes: Bytes::Shared(ArcSlice::from_vec(bytes)?),
         })
+    }
+
+    /// A message of these bytes, which are moved and not copied. Making it takes no memory; each clone copies the bytes.
+    pub fn owned(bytes: Vec<u8>) -> Message
+        ensures { result ≡ bytes.items }
+    {
+        Message {
+            bytes: Bytes::Owned(bytes),
+        }
     }
 
     pub fn bytes(&self) -> &[u8]
         ensures { result.now ≡ self.now }
     {
-        self.bytes.as_slice()
+        match &self.bytes {
+            Bytes::Shared(bytes) => bytes.as_slice(),
+            Bytes::Owned(bytes) => bytes.as_slice(),
+        }
     }
 
     pub fn len(&self) -> usize
         ensures { result ≡ length self.now }
     {
-        self.bytes.len()
+        self.bytes().len()
     }
 
     pub fn is_empty(&self) -> bool
         ensures { result ≡ (length self.now == 0) }
     {
-        self.bytes.is_empty()
+        self.bytes().is_empty()
     }
 }
