@@ -1,0 +1,4 @@
+pub mod ListedDescriptors
+pub mod Faults
+pub mod WrittenMessages
+pub mod WrittenCopies

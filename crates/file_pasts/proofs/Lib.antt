@@ -1,0 +1,13 @@
+pub mod NamedPages
+pub mod GroupLemmas
+pub mod PutLaw
+pub mod Naming
+pub mod InStep
+pub mod LoadsDue
+pub mod Owning
+pub mod Owned
+pub mod PutPageLaws
+pub mod Lists
+pub mod ServerReplies
+pub mod ServerJobs
+pub mod ServerGroups

@@ -1,0 +1,15 @@
+pub mod ClientPast
+pub mod PutDue
+pub mod GetDue
+pub mod ServerDue
+pub mod Groups
+pub mod InStep
+pub mod PutLaws
+pub mod PutTokens
+pub mod PutPages
+pub mod ServerLaws
+pub mod WorkedPuts
+pub mod WorkedPages
+pub mod WorkedServers
+pub mod WorkedGets
+pub mod WorkedGroups
