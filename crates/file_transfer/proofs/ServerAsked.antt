@@ -164,7 +164,7 @@ takes kind past m message r c e small =
     let a : IsAccepted kind (requests kind past) (replies past) message r = accepted kind (requests kind past) (replies past) message r e in
     let more : (requests kind (Asked message ∷ past)).accepted ≡ (requests kind past).accepted ++ r ∷ [] = ap (λ (q : Requests). q.accepted) (with-accepted kind past message r e) in
     let longer : length (requests kind (Asked message ∷ past)).accepted ≡ length (requests kind past).accepted + 1 =
-        ap (λ (rs : List Request). length rs) more ∙ length-append (requests kind past).accepted (r ∷ []) in
+    ap (λ (rs : List Request). length rs) more ∙ length-append (requests kind past).accepted (r ∷ []) in
     record {
       more = more;
       longer = longer;
@@ -183,14 +183,14 @@ came-queued kind past m message r rs co c e small some put is =
     came-beside kind past m message rs co m.fault c
     (ap (λ (list : List Request). slice_get list (length (replies past))) t.more ∙ get-before (length (replies past)) (requests kind past).accepted r fewer)
     (put ∙ ap (λ (list : List Request). list ++ r ∷ []) c.waiting ∙ sym (drop-append-le (length (replies past)) (requests kind past).accepted (r ∷ []) c.in_turn.replied)
-        ∙ ap (λ (list : List Request). drop (length (replies past)) list) (sym t.more))
+    ∙ ap (λ (list : List Request). drop (length (replies past)) list) (sym t.more))
     (course-accepted kind past m message r co c e is)
     (c.fault ∙ ap (λ (q : Requests). q.fault) (sym (with-accepted kind past message r e)))
     (omega (arith, c.in_turn.replied, t.longer)) t.few t.read
   where
-  waits_some : (list : List Request) → m.waiting.items ≡ list → length (replies past) < length (requests kind past).accepted
-  waits_some [] h = absurd (let none : (length m.waiting.items == 0) ≡ true = ap (λ (list : List Request). length list == 0) h in let b : ⊥ = cc in b)
-  waits_some (x ∷ later) h = within (length (replies past)) (requests kind past).accepted x (handled-some kind past m x later c h)
+    waits_some : (list : List Request) → m.waiting.items ≡ list → length (replies past) < length (requests kind past).accepted
+    waits_some [] h = absurd (let none : (length m.waiting.items == 0) ≡ true = ap (λ (list : List Request). length list == 0) h in let b : ⊥ = cc in b)
+    waits_some (x ∷ later) h = within (length (replies past)) (requests kind past).accepted x (handled-some kind past m x later c h)
 
 -- ---- it is handled at once
 
@@ -218,17 +218,17 @@ came-handled kind past m message r start rs co g c e small none put is starts pu
     let t : Takes kind past message r = takes kind past m message r c e small in
     let before : handled kind past ≡ None = handled-none kind past m c none in
     let all : length (requests kind past).accepted ≡ length (replies past) =
-        omega (arith, beyond (length (replies past)) (requests kind past).accepted before, c.in_turn.replied) in
+    omega (arith, beyond (length (replies past)) (requests kind past).accepted before, c.in_turn.replied) in
     let here : handled kind (Asked message ∷ past) ≡ Some r =
-        ap (λ (list : List Request). slice_get list (length (replies past))) t.more ∙ get-last (length (replies past)) (requests kind past).accepted r (sym all) in
+    ap (λ (list : List Request). slice_get list (length (replies past))) t.more ∙ get-last (length (replies past)) (requests kind past).accepted r (sym all) in
     let unused : jobs_in_hand past ≡ 0 =
-        omega (arith, c.in_turn.in_hand, ap (λ (o : Option Request). length (jobs_if_handled kind o past)) before) in
+    omega (arith, c.in_turn.in_hand, ap (λ (o : Option Request). length (jobs_if_handled kind o past)) before) in
     let sourceless : source_in_hand past ≡ None = no_source (source_in_hand past) (subst (λ (o : Option Request). IsSource o (source_in_hand past)) before c.in_turn.source) in
     let starts_so : StartsAs (handled kind (Asked message ∷ past)) (standing_status past) m.given start =
-        subst (λ (o : Option Request). StartsAs o (standing_status past) m.given start) (sym here) (subst (λ (s : ℕ). StartsAs (Some r) s m.given start) c.status starts) in
+    subst (λ (o : Option Request). StartsAs o (standing_status past) m.given start) (sym here) (subst (λ (s : ℕ). StartsAs (Some r) s m.given start) c.status starts) in
     let ahead : (n : ℕ) → jobs_given past ≤ n → result_at n (Asked message ∷ past) ≡ None = c.in_turn.ahead in
     let read : (q : Request) → handled kind (Asked message ∷ past) ≡ Some q → IsRequest q =
-        λ q h. request_at (length (replies past)) (requests kind (Asked message ∷ past)).accepted q t.read h in
+    λ q h. request_at (length (replies past)) (requests kind (Asked message ∷ past)).accepted q t.read h in
     let due : jobs_due kind (Asked message ∷ past) ≡ jobs_at_start (standing_status past) (handled kind (Asked message ∷ past)) = due-start kind (Asked message ∷ past) sourceless in
     let outs : outcomes_so_far kind (Asked message ∷ past) ≡ map (λ (w : Work). None) (jobs_due kind (Asked message ∷ past)) = outcomes-start kind (Asked message ∷ past) unused ahead in
     let group : group_in_hand kind (Asked message ∷ past) ≡ option_to_list start.group = group-start kind (Asked message ∷ past) sourceless unused ahead read ∙ sym starts_so.group in
@@ -271,15 +271,17 @@ came-handled kind past m message r start rs co g c e small none put is starts pu
         fitting = subst (λ (list : List (Option WorkResult)). AreFitting (jobs_due kind (Asked message ∷ past)) list) (sym outs) (fitting-none (jobs_due kind (Asked message ∷ past)));
       };
     } where
-  no_source : (s : Option (List ℕ)) → IsSource None s → s ≡ None
-  no_source None h = refl
-  no_source (Some bytes) h = absurd h
-  source-none : (o : Option Request) → IsSource o None
-  source-none None = tt
-  source-none (Some q) = tt
-  filled-none : (o : Option Request) → filled_for o None ≡ None
-  filled-none None = refl
-  filled-none (Some q) = refl
+      no_source : (s : Option (List ℕ)) → IsSource None s → s ≡ None
+      no_source None h = refl
+      no_source (Some bytes) h = absurd h
+
+      source-none : (o : Option Request) → IsSource o None
+      source-none None = tt
+      source-none (Some q) = tt
+
+      filled-none : (o : Option Request) → filled_for o None ≡ None
+      filled-none None = refl
+      filled-none (Some q) = refl
 
 -- ---- what the call answers and leaves
 

@@ -45,12 +45,12 @@ pub no_group : (kind : CopyKind) (c : Completion) (past : List ServerEvent) → 
 no_group kind c past a = group-is kind past ∙ ap (λ (works : Option (List WorkResult)). group_with (handled kind past) (standing_status past) works) (was_missing kind c past a)
     ∙ by_handled (handled kind past) (standing_status past == 0)
   where
-  by_handled : (o : Option Request) (t : Bool) → group_with o (standing_status past) None ≡ []
-  by_handled None t = refl
-  by_handled (Some r) t = by_status (standing_status past == 0) where
-    by_status : (t : Bool) → cond t (group_of r None) [] ≡ []
-    by_status true = refl
-    by_status false = refl
+    by_handled : (o : Option Request) (t : Bool) → group_with o (standing_status past) None ≡ []
+    by_handled None t = refl
+    by_handled (Some r) t = by_status (standing_status past == 0) where
+      by_status : (t : Bool) → cond t (group_of r None) [] ≡ []
+      by_status true = refl
+      by_status false = refl
 
 -- its place among the jobs of the request
 pub place-is : (kind : CopyKind) (past : List ServerEvent) (m : FileServer) (c : Completion) (came : CameBy kind past m) (a : AnswersJob kind past c)
@@ -60,11 +60,11 @@ place-is kind past m c came a =
     let in_list : a.place < length (jobs_due kind past) = within a.place (jobs_due kind past) a.work a.work_is in
     (omega (arith, a.number), omega (arith, a.number), omega (arith, ap length came.turn.outcomes, length-so_far kind past), omega (arith, came.in_turn.due))
   where
-  length-so_far : (kind : CopyKind) (past : List ServerEvent) → length (outcomes_so_far kind past) ≡ length (jobs_due kind past)
-  length-so_far kind past = by_jobs (jobs_given past - jobs_in_hand past) (jobs_due kind past) where
-    by_jobs : (n : ℕ) (jobs : List Work) → length (outcomes_of n jobs past) ≡ length jobs
-    by_jobs n [] = refl
-    by_jobs n (w ∷ ws) = omega (arith, by_jobs (n + 1) ws)
+    length-so_far : (kind : CopyKind) (past : List ServerEvent) → length (outcomes_so_far kind past) ≡ length (jobs_due kind past)
+    length-so_far kind past = by_jobs (jobs_given past - jobs_in_hand past) (jobs_due kind past) where
+      by_jobs : (n : ℕ) (jobs : List Work) → length (outcomes_of n jobs past) ≡ length jobs
+      by_jobs n [] = refl
+      by_jobs n (w ∷ ws) = omega (arith, by_jobs (n + 1) ws)
 
 -- ---- the group that a WRITE brought
 
@@ -77,7 +77,7 @@ not_plain past r place work q e write = by_channel (r.channel == 0) refl where
       let none : r.descriptors ≡ [] = q.plain (rw (write, h) refl) in
       let jobs : jobs_of r past ≡ map (λ (d : Descriptor). Fetch d) r.descriptors = rw write refl in
       let nothing : slice_get (map (λ (d : Descriptor). Fetch d) []) place ≡ Some work =
-          ap (λ (ds : List Descriptor). slice_get (map (λ (d : Descriptor). Fetch d) ds) place) (sym none) ∙ ap (λ (ws : List Work). slice_get ws place) (sym jobs) ∙ e in
+      ap (λ (ds : List Descriptor). slice_get (map (λ (d : Descriptor). Fetch d) ds) place) (sym none) ∙ ap (λ (ws : List Work). slice_get ws place) (sym jobs) ∙ e in
       absurd (let b : ⊥ = cc in b)
 
 group-fetched : (r : Request) (os : List (Option WorkResult)) → ((r.op == WRITE) ≡ true → (r.channel == 0) ≡ false) → (t : Bool)
@@ -195,15 +195,15 @@ came-completed kind past m c os room g came a e empty kept put more same =
             (subst (λ (ws : List Work). AreFitting ws os.items) (sym jobs) (are-fitting kind past m c os.items came a e));
       };
     } where
-  ahead_of : (n : ℕ) → jobs_given past ≤ n → result_at n (Completed c ∷ past) ≡ None
-  ahead_of n h =
-      let other : (c.number == n) ≡ false = other_number n h in
-      rw other (came.in_turn.ahead n h)
-    where
-    other_number : (n : ℕ) → jobs_given past ≤ n → (c.number == n) ≡ false
-    other_number n h =
-        let less : c.number < n = omega (arith, a.number, a.given, came.in_turn.before) in
-        grind (arith, nat_tests)
+      ahead_of : (n : ℕ) → jobs_given past ≤ n → result_at n (Completed c ∷ past) ≡ None
+      ahead_of n h =
+          let other : (c.number == n) ≡ false = other_number n h in
+          rw other (came.in_turn.ahead n h)
+        where
+          other_number : (n : ℕ) → jobs_given past ≤ n → (c.number == n) ≡ false
+          other_number n h =
+              let less : c.number < n = omega (arith, a.number, a.given, came.in_turn.before) in
+              grind (arith, nat_tests)
 
 -- the last Fetch of a WRITE is completed, and none was refused
 pub came-fetched : (kind : CopyKind) (past : List ServerEvent) (m : FileServer) (c : Completion) (os : Vec (Option WorkResult) Global) (room : Vec ℕ Global) (g : VecDeque (List ℕ) Global) (bytes : List ℕ)
@@ -221,14 +221,14 @@ came-fetched kind past m c os room g bytes came a e has is met empty whole put m
     (put ∙ ap (λ (b : List ℕ). m.groups.items ++ b ∷ []) whole ∙ ap (λ (h : List (List ℕ)). m.groups.items ++ h) (sym group))
     (omega (arith, more, one)) same
   where
-  all_there : (os : List (Option WorkResult)) (b : Bool) → all_of os ≡ None → (b && is_success (status_from 0 os)) ≡ true → ⊥
-  all_there os b none met =
-      let missing_one : status_from 0 os ≡ None = status-is os ∙ ap (λ (o : Option (List WorkResult)). option_map status_of o) none in
-      by_op b (ap (λ (s : Option ℕ). b && is_success s) (sym missing_one) ∙ met)
-    where
-    by_op : (b : Bool) → (b && false) ≡ true → ⊥
-    by_op true h = let f : ⊥ = cc in f
-    by_op false h = let f : ⊥ = cc in f
+    all_there : (os : List (Option WorkResult)) (b : Bool) → all_of os ≡ None → (b && is_success (status_from 0 os)) ≡ true → ⊥
+    all_there os b none met =
+        let missing_one : status_from 0 os ≡ None = status-is os ∙ ap (λ (o : Option (List WorkResult)). option_map status_of o) none in
+        by_op b (ap (λ (s : Option ℕ). b && is_success s) (sym missing_one) ∙ met)
+      where
+        by_op : (b : Bool) → (b && false) ≡ true → ⊥
+        by_op true h = let f : ⊥ = cc in f
+        by_op false h = let f : ⊥ = cc in f
 
 -- it brings no group
 pub came-unfetched : (kind : CopyKind) (past : List ServerEvent) (m : FileServer) (c : Completion) (os : Vec (Option WorkResult) Global)

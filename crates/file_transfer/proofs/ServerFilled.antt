@@ -36,8 +36,8 @@ wanted kind past m r later most c e w = by_tests (r.op == READ) (m.status == 0) 
   by_tests : (x y z : Bool) → (r.op == READ) ≡ x → (m.status == 0) ≡ y → is_none m.turn.filled ≡ z → cond (r.op == READ && m.status == 0 && is_none m.turn.filled) (Some r.length) None ≡ Some most → IsWanted r m most
   by_tests true true true h k l s =
       let all : cond (true && true && true) (Some r.length) None ≡ Some most =
-          ap (λ (t : Bool). cond (t && true && true) (Some r.length) None) (sym h) ∙ ap (λ (t : Bool). cond (r.op == READ && t && true) (Some r.length) None) (sym k)
-          ∙ ap (λ (t : Bool). cond (r.op == READ && m.status == 0 && t) (Some r.length) None) (sym l) ∙ s in
+      ap (λ (t : Bool). cond (t && true && true) (Some r.length) None) (sym h) ∙ ap (λ (t : Bool). cond (r.op == READ && t && true) (Some r.length) None) (sym k)
+      ∙ ap (λ (t : Bool). cond (r.op == READ && m.status == 0 && t) (Some r.length) None) (sym l) ∙ s in
       let same : r.length ≡ most = cc in
       record { read = h; going = k; unfilled = l; most_is = same }
   by_tests false y z h k l s = absurd (let none : None ≡ Some most = ap (λ (t : Bool). cond (t && m.status == 0 && is_none m.turn.filled) (Some r.length) None) (sym h) ∙ s in let b : ⊥ = cc in b)
@@ -96,9 +96,9 @@ unfilled kind past m r later most bytes c e w =
           ∙ group-other r (standing_status past) (all_of (outcomes_so_far kind (WasFilled bytes ∷ past))) other;
       jobs = ap (λ (o : Option Request). jobs_if_handled kind o (WasFilled bytes ∷ past)) here ∙ rw (going, other) (rw w.read refl);
     } where
-  by_source : (s : Option (List ℕ)) → is_none (option_map (filled_with r) s) ≡ true → s ≡ None
-  by_source None h = refl
-  by_source (Some b) h = absurd (let f : ⊥ = cc in f)
+      by_source : (s : Option (List ℕ)) → is_none (option_map (filled_with r) s) ≡ true → s ≡ None
+      by_source None h = refl
+      by_source (Some b) h = absurd (let f : ⊥ = cc in f)
 
 pub came-filled : (kind : CopyKind) (past : List ServerEvent) (m : FileServer) (r : Request) (later : List Request) (most : ℕ) (bytes : List ℕ)
     (t : Turn) → CameBy kind past m → m.waiting.items ≡ r ∷ later
@@ -112,7 +112,7 @@ came-filled kind past m r later most bytes t c e wants short first due outs fill
     let read : IsRequest r = front-read kind past m r later c e in
     let is_read : r.op ≡ READ = read_of r.op w.read in
     let outcomes : outcomes_so_far kind (WasFilled bytes ∷ past) ≡ map (λ (v : Work). None) (jobs_due kind (WasFilled bytes ∷ past)) =
-        outcomes-start kind (WasFilled bytes ∷ past) u.unused c.in_turn.ahead in
+    outcomes-start kind (WasFilled bytes ∷ past) u.unused c.in_turn.ahead in
     let same_group : group_in_hand kind past ≡ group_in_hand kind (WasFilled bytes ∷ past) = u.groupless ∙ sym u.groupless_then in
     let few : length (places_of r.descriptors bytes) ≤ 16 = omega (arith, length-places r.descriptors bytes, read.few) in
     record {
@@ -149,8 +149,8 @@ came-filled kind past m r later most bytes t c e wants short first due outs fill
             (fitting-none (jobs_due kind (WasFilled bytes ∷ past)));
       };
     } where
-  read_of : (op : ℕ) → (op == READ) ≡ true → op ≡ READ
-  read_of op h = grind (arith, nat_tests)
+      read_of : (op : ℕ) → (op == READ) ≡ true → op ≡ READ
+      read_of op h = grind (arith, nat_tests)
 
 -- what is wanted is seen by the server itself
 pub wanted-still : (kind other : CopyKind) (past before : List ServerEvent) (m : FileServer) (r : Request) (later : List Request) → CameBy kind past m → CameBy other before m
@@ -167,5 +167,5 @@ most-wanted kind past m r later most c e w =
     let is_wanted : IsWanted r m most = wanted kind past m r later most c e w in
     let read : IsRequest r = front-read kind past m r later c e in
     (omega (arith, read.short, is_wanted.most_is), read_of r.op is_wanted.read) where
-  read_of : (op : ℕ) → (op == READ) ≡ true → op ≡ READ
-  read_of op h = grind (arith, nat_tests)
+      read_of : (op : ℕ) → (op == READ) ≡ true → op ≡ READ
+      read_of op h = grind (arith, nat_tests)

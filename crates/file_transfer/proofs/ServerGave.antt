@@ -184,7 +184,14 @@ came-stored_next kind past m g None c e left fewer same =
     let next : next_group kind past ≡ None = none_at (groups_stored past) (groups_replied kind past ++ group_in_hand kind past) (sym c.groups ∙ none) in
     subst (λ (o : Option (List ℕ)). CameBy kind (after_storing o past) (record m { groups = g })) (sym next)
     (record {
-      kind_is = c.kind_is; waiting = c.waiting; course = record { accepted = c.course.accepted; ended = c.course.ended; written = c.course.written; counted = c.course.counted };
-      fault = c.fault; status = c.status; given = c.given; turn = c.turn;
-      groups = sym e ∙ c.groups; spare = omega (arith, c.spare, fewer, same); in_turn = c.in_turn;
+      kind_is = c.kind_is;
+      waiting = c.waiting;
+      course = record { accepted = c.course.accepted; ended = c.course.ended; written = c.course.written; counted = c.course.counted };
+      fault = c.fault;
+      status = c.status;
+      given = c.given;
+      turn = c.turn;
+      groups = sym e ∙ c.groups;
+      spare = omega (arith, c.spare, fewer, same);
+      in_turn = c.in_turn;
     })

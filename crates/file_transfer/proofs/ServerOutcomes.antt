@@ -54,7 +54,7 @@ outcomes-set n (w ∷ ws) c zero past e =
 outcomes-set n (w ∷ ws) c (suc k) past e =
     let other : (c.number == n) ≡ false = grind (arith, nat_tests) in
     let later : outcomes_of (n + 1) ws (Completed c ∷ past) ≡ set (outcomes_of (n + 1) ws past) k (Some c.result) =
-        outcomes-set (n + 1) ws c k past (omega arith) in
+    outcomes-set (n + 1) ws c k past (omega arith) in
     rw (other, later) refl
 
 -- one that is not completed
@@ -69,9 +69,9 @@ missing n (w ∷ ws) (suc k) past h e =
     let later : all_of (outcomes_of (n + 1) ws past) ≡ None = missing (n + 1) ws k past (omega arith) there in
     rw later (in_front_of (result_at n past))
   where
-  in_front_of : (o : Option WorkResult) → result_in_front o None ≡ None
-  in_front_of None = refl
-  in_front_of (Some r) = refl
+    in_front_of : (o : Option WorkResult) → result_in_front o None ≡ None
+    in_front_of None = refl
+    in_front_of (Some r) = refl
 
 pub length-outcomes : (n : ℕ) (jobs : List Work) (past : List ServerEvent) → length (outcomes_of n jobs past) ≡ length jobs
 length-outcomes n [] past = refl

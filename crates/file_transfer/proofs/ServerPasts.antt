@@ -34,9 +34,9 @@ group-is kind past = by_handled (handled kind past) ∙ ap (λ (works : Option (
 pub reply-is : (kind : CopyKind) (past : List ServerEvent) → next_reply kind past ≡ reply_with (handled kind past) (standing_status past) (source_in_hand past) (all_of (outcomes_so_far kind past))
 reply-is kind past = by_handled (handled kind past)
     ∙ ap (λ (works : Option (List WorkResult)). reply_with (handled kind past) (standing_status past) (source_in_hand past) works) (results-is kind past) where
-  by_handled : (o : Option Request) → reply_if_handled kind o past ≡ reply_with o (standing_status past) (source_in_hand past) (results kind past)
-  by_handled None = refl
-  by_handled (Some r) = refl
+      by_handled : (o : Option Request) → reply_if_handled kind o past ≡ reply_with o (standing_status past) (source_in_hand past) (results kind past)
+      by_handled None = refl
+      by_handled (Some r) = refl
 
 -- ---- the request that is handled
 
@@ -60,8 +60,14 @@ has_jobs kind past place work e = by_handled (handled kind past) refl where
   by_handled None h = absurd (let none : slice_get (jobs_if_handled kind None past) place ≡ Some work = ap (λ (o : Option Request). slice_get (jobs_if_handled kind o past) place) (sym h) ∙ e in let b : ⊥ = cc in b)
   by_handled (Some r) h = by_status (standing_status past == 0) refl where
     by_status : (t : Bool) → (standing_status past == 0) ≡ t → (r : Request) × HasJobs kind past r
-    by_status true s = (r, record { handles = h; going = s;
-        jobs = ap (λ (o : Option Request). jobs_if_handled kind o past) h ∙ ap (λ (t : Bool). cond t (jobs_of r past) []) s })
+    by_status true s = (
+      r,
+      record {
+        handles = h;
+        going = s;
+        jobs = ap (λ (o : Option Request). jobs_if_handled kind o past) h ∙ ap (λ (t : Bool). cond t (jobs_of r past) []) s;
+      },
+    )
     by_status false s = absurd (let none : slice_get (cond false (jobs_of r past) []) place ≡ Some work =
         ap (λ (t : Bool). slice_get (cond t (jobs_of r past) []) place) (sym s) ∙ ap (λ (o : Option Request). slice_get (jobs_if_handled kind o past) place) (sym h) ∙ e in let b : ⊥ = cc in b)
 

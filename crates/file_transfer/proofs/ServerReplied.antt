@@ -59,12 +59,12 @@ of_answer r source works reply e = by_status (status_of works == 0) refl e where
   by_status : (t : Bool) → (status_of works == 0) ≡ t → answer_of r source works ≡ Some reply → IsReplyOf r source reply
   by_status false s a =
       let it : Some (refusal r (status_of works)) ≡ Some reply = ap (λ (t : Bool). cond (not t) (Some (refusal r (status_of works)))
-          (cond (r.op == WRITE) (Some (success r r.length [])) (cond (r.op == READ) (option_map (read_reply r) source) (Some (success r 0 []))))) (sym s) ∙ a in
+      (cond (r.op == WRITE) (Some (success r r.length [])) (cond (r.op == READ) (option_map (read_reply r) source) (Some (success r 0 []))))) (sym s) ∙ a in
       let same : refusal r (status_of works) ≡ reply = cc in
       of_refusal r source (status_of works) reply s same
   by_status true s a = of_success r source (r.op == WRITE) (r.op == READ) source reply refl refl refl
       (ap (λ (t : Bool). cond (not t) (Some (refusal r (status_of works)))
-          (cond (r.op == WRITE) (Some (success r r.length [])) (cond (r.op == READ) (option_map (read_reply r) source) (Some (success r 0 []))))) (sym s) ∙ a)
+      (cond (r.op == WRITE) (Some (success r r.length [])) (cond (r.op == READ) (option_map (read_reply r) source) (Some (success r 0 []))))) (sym s) ∙ a)
 
 reply_of_works : (r : Request) (status : ℕ) (source : Option (List ℕ)) (works : Option (List WorkResult)) (reply : Reply) → reply_with (Some r) status source works ≡ Some reply → IsReplyOf r source reply
 reply_of_works r status source works reply e = by_status (status == 0) refl works e where
@@ -92,10 +92,12 @@ count-short : (kind : CopyKind) (past : List ServerEvent) (m : FileServer) (r : 
 count-short kind past m r later reply c e n = by_reply (reply_of kind past m r later reply c e n) where
   read : IsRequest r
   read = front-read kind past m r later c e
+
   by_source : (bytes : List ℕ) → source_in_hand past ≡ Some bytes → length bytes ≤ r.length
   by_source bytes s =
       let fact : IsSource (Some r) (Some bytes) = subst (λ (o : Option (List ℕ)). IsSource (Some r) o) s (subst (λ (o : Option Request). IsSource o (source_in_hand past)) (handled-some kind past m r later c e) c.in_turn.source) in
       fact.1
+
   by_reply : IsReplyOf r (source_in_hand past) reply → reply.count ≤ 65536
   by_reply (plain i few h) = omega (arith, read.short)
   by_reply (given bytes s same) = omega (arith, read.short, by_source bytes s, ap (λ (y : Reply). y.count) same)
@@ -107,8 +109,10 @@ written-for kind past m r later reply f c e n filled nought = by_reply (reply_of
   by_source : (s : Option (List ℕ)) → IsSource (Some r) s → option_map (filled_with r) s ≡ Some f → r.op ≡ READ
   by_source None q h = absurd (let b : ⊥ = cc in b)
   by_source (Some bytes) q h = q.0
+
   is_read : (op : ℕ) → op ≡ READ → (op == READ) ≡ true
   is_read op h = grind (arith, nat_tests)
+
   by_reply : IsReplyOf r (source_in_hand past) reply → option_map (filled_with r) (source_in_hand past) ≡ Some f → f.reply ≡ reply_bytes reply
   by_reply (plain i few h) s =
       let fact : IsSource (Some r) (source_in_hand past) = subst (λ (o : Option Request). IsSource o (source_in_hand past)) (handled-some kind past m r later c e) c.in_turn.source in
@@ -149,7 +153,7 @@ pub written-plain : (kind : CopyKind) (past : List ServerEvent) (m : FileServer)
     → reply_bytes (record { op = h.op; status = h.status; id = h.id; count = h.count; inline = [] }) ≡ reply_bytes reply
 written-plain kind past m reply h c n same other =
     let none : reply.inline ≡ [] = waits_for kind past m reply c n (λ r later e. plain-for kind past m r later reply c e n
-        (λ f filled. ap (λ (x : ReplyHeader). x.status == 0) (sym same) ∙ other f filled)) in
+    (λ f filled. ap (λ (x : ReplyHeader). x.status == 0) (sym same) ∙ other f filled)) in
     ap (λ (x : ReplyHeader). reply_bytes (record { op = x.op; status = x.status; id = x.id; count = x.count; inline = [] })) same
     ∙ ap (λ (bytes : List ℕ). reply_bytes (record { op = reply.op; status = reply.status; id = reply.id; count = reply.count; inline = bytes })) (sym none)
 
@@ -200,15 +204,15 @@ came-replied kind past m r later reply start rs g c e n starts left put more roo
     let here : handled kind past ≡ Some r = handled-some kind past m r later c e in
     let one_more : length (replies past ++ reply ∷ []) ≡ length (replies past) + 1 = length-append (replies past) (reply ∷ []) in
     let next : slice_get m.waiting.items 1 ≡ handled kind (Replied reply ∷ past) =
-        ap (λ (list : List Request). slice_get list 1) c.waiting ∙ second_left (length (replies past)) (requests kind past).accepted
-        ∙ ap (λ (k : ℕ). slice_get (requests kind past).accepted k) (sym one_more) in
+    ap (λ (list : List Request). slice_get list 1) c.waiting ∙ second_left (length (replies past)) (requests kind past).accepted
+    ∙ ap (λ (k : ℕ). slice_get (requests kind past).accepted k) (sym one_more) in
     let status : standing_status (Replied reply ∷ past) ≡ reply.status = status-kept kind past m r later reply c e n in
     let ahead : (k : ℕ) → jobs_given past ≤ k → result_at k (Replied reply ∷ past) ≡ None = c.in_turn.ahead in
     let starts_so : StartsAs (handled kind (Replied reply ∷ past)) (standing_status (Replied reply ∷ past)) m.given start =
-        subst (λ (o : Option Request). StartsAs o (standing_status (Replied reply ∷ past)) m.given start) next
-        (subst (λ (s : ℕ). StartsAs (slice_get m.waiting.items 1) s m.given start) (sym status) starts) in
+    subst (λ (o : Option Request). StartsAs o (standing_status (Replied reply ∷ past)) m.given start) next
+    (subst (λ (s : ℕ). StartsAs (slice_get m.waiting.items 1) s m.given start) (sym status) starts) in
     let read : (q : Request) → handled kind (Replied reply ∷ past) ≡ Some q → IsRequest q =
-        λ q h. request_at (length (replies past ++ reply ∷ [])) (requests kind past).accepted q c.in_turn.read h in
+    λ q h. request_at (length (replies past ++ reply ∷ [])) (requests kind past).accepted q c.in_turn.read h in
     let due : jobs_due kind (Replied reply ∷ past) ≡ jobs_at_start (standing_status (Replied reply ∷ past)) (handled kind (Replied reply ∷ past)) = due-start kind (Replied reply ∷ past) refl in
     let outs : outcomes_so_far kind (Replied reply ∷ past) ≡ map (λ (w : Work). None) (jobs_due kind (Replied reply ∷ past)) = outcomes-start kind (Replied reply ∷ past) refl ahead in
     let group : group_in_hand kind (Replied reply ∷ past) ≡ option_to_list start.group = group-start kind (Replied reply ∷ past) refl refl ahead read ∙ sym starts_so.group in
@@ -217,7 +221,9 @@ came-replied kind past m r later reply start rs g c e n starts left put more roo
       kind_is = c.kind_is;
       waiting = left ∙ ap (λ (list : List Request). drop 1 list) c.waiting ∙ drop_more (length (replies past)) (requests kind past).accepted ∙ ap (λ (k : ℕ). drop k (requests kind past).accepted) (sym one_more);
       course = record {
-        accepted = c.course.accepted; ended = c.course.ended; written = c.course.written;
+        accepted = c.course.accepted;
+        ended = c.course.ended;
+        written = c.course.written;
         counted = ap (λ (k : ℕ). k + reply.count) c.course.counted ∙ sym (counted-append (replies past) reply);
       };
       fault = c.fault;
@@ -288,15 +294,22 @@ came-next_message kind past m h count start rs g c e size starts left put more r
       (subst (λ (k : ℕ). CameBy kind (Replied reply ∷ past) (record m { waiting = rs; course = record m.course { counted = m.course.counted + k }; status = h.status; turn = start.turn; groups = g })) (sym size)
       (subst (λ (x : ReplyHeader). CameBy kind (Replied reply ∷ past) (record m { waiting = rs; course = record m.course { counted = m.course.counted + x.count }; status = x.status; turn = start.turn; groups = g })) (sym same)
       (waits_for kind past m reply c n (λ r later w. came-replied kind past m r later reply start rs g c w n
-          (subst (λ (x : ReplyHeader). StartsAs (slice_get m.waiting.items 1) x.status m.given start) same starts) left put more room))))
+      (subst (λ (x : ReplyHeader). StartsAs (slice_get m.waiting.items 1) x.status m.given start) same starts) left put more room))))
 
 pub count-fits : (kind : CopyKind) (past : List ServerEvent) (m : FileServer) (h : ReplyHeader) → CameBy kind past m → Some h ≡ option_map header_in (next_reply kind past)
     → m.course.counted + h.count ≤ 65536 * 4294967296
 count-fits kind past m h c e = of_due (reply_due kind past h e) where
   of_due : ((reply : Reply) × (next_reply kind past ≡ Some reply) × (h ≡ header_in reply)) → m.course.counted + h.count ≤ 65536 * 4294967296
   of_due (reply, n, same) = waits_for kind past m reply c n (λ r later w.
-      omega (arith, c.course.counted, c.in_turn.counts, c.in_turn.few, within (length (replies past)) (requests kind past).accepted r (handled-some kind past m r later c w),
-        count-short kind past m r later reply c w n, ap (λ (x : ReplyHeader). x.count) same))
+      omega (
+        arith,
+        c.course.counted,
+        c.in_turn.counts,
+        c.in_turn.few,
+        within (length (replies past)) (requests kind past).accepted r (handled-some kind past m r later c w),
+        count-short kind past m r later reply c w n,
+        ap (λ (x : ReplyHeader). x.count) same,
+      ))
 
 pub came-no_message : (kind : CopyKind) (past : List ServerEvent) (m : FileServer) → CameBy kind past m → next_reply kind past ≡ None → CameBy kind (after_replying (next_reply kind past) past) m
 came-no_message kind past m c e = subst (λ (o : Option Reply). CameBy kind (after_replying o past) m) (sym e) c

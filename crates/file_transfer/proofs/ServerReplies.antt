@@ -39,9 +39,9 @@ wants-is kind past m r later c e =
     ∙ ap (λ (s : ℕ). cond (r.op == READ && s == 0 && is_none (source_in_hand past)) (Some r.length) None) (sym c.status)
     ∙ ap (λ (t : Bool). cond (r.op == READ && m.status == 0 && t) (Some r.length) None) (sym none)
   where
-  by_source : (s : Option (List ℕ)) → is_none (option_map (filled_with r) s) ≡ is_none s
-  by_source None = refl
-  by_source (Some bytes) = refl
+    by_source : (s : Option (List ℕ)) → is_none (option_map (filled_with r) s) ≡ is_none s
+    by_source None = refl
+    by_source (Some bytes) = refl
 
 pub wants-none : (kind : CopyKind) (past : List ServerEvent) (m : FileServer) → CameBy kind past m → m.waiting.items ≡ [] → wants_source kind past ≡ None
 wants-none kind past m c e = ap (λ (o : Option Request). source_for o past) (handled-none kind past m c e)
@@ -67,17 +67,17 @@ pub header-is : (kind : CopyKind) (past : List ServerEvent) (m : FileServer) (r 
     → option_map header_in (next_reply kind past) ≡ header_of r m.status m.turn.outcomes.items m.turn.filled
 header-is kind past m r later c e =
     ap (λ (o : Option Reply). option_map header_in o) (reply-is kind past
-        ∙ ap (λ (o : Option Request). reply_with o (standing_status past) (source_in_hand past) (all_of (outcomes_so_far kind past))) (handled-some kind past m r later c e)
-        ∙ ap (λ (s : ℕ). reply_with (Some r) s (source_in_hand past) (all_of (outcomes_so_far kind past))) (sym c.status)
-        ∙ ap (λ (os : List (Option WorkResult)). reply_with (Some r) m.status (source_in_hand past) (all_of os)) (sym c.turn.outcomes))
+    ∙ ap (λ (o : Option Request). reply_with o (standing_status past) (source_in_hand past) (all_of (outcomes_so_far kind past))) (handled-some kind past m r later c e)
+    ∙ ap (λ (s : ℕ). reply_with (Some r) s (source_in_hand past) (all_of (outcomes_so_far kind past))) (sym c.status)
+    ∙ ap (λ (os : List (Option WorkResult)). reply_with (Some r) m.status (source_in_hand past) (all_of os)) (sym c.turn.outcomes))
     ∙ by_status (m.status == 0) refl
     ∙ ap (λ (f : Option Filled). header_of r m.status m.turn.outcomes.items f) (sym (filled-is kind past m r later c e))
   where
-  by_status : (t : Bool) → (m.status == 0) ≡ t
-      → option_map header_in (reply_with (Some r) m.status (source_in_hand past) (all_of m.turn.outcomes.items)) ≡ header_of r m.status m.turn.outcomes.items (option_map (filled_with r) (source_in_hand past))
-  by_status true s = rw s (header-answer r (source_in_hand past) (all_of m.turn.outcomes.items)
-      ∙ ap (λ (o : Option ℕ). header_with r (option_map (filled_with r) (source_in_hand past)) o) (sym (status-is m.turn.outcomes.items)))
-  by_status false s = rw s (rw s refl)
+    by_status : (t : Bool) → (m.status == 0) ≡ t
+        → option_map header_in (reply_with (Some r) m.status (source_in_hand past) (all_of m.turn.outcomes.items)) ≡ header_of r m.status m.turn.outcomes.items (option_map (filled_with r) (source_in_hand past))
+    by_status true s = rw s (header-answer r (source_in_hand past) (all_of m.turn.outcomes.items)
+        ∙ ap (λ (o : Option ℕ). header_with r (option_map (filled_with r) (source_in_hand past)) o) (sym (status-is m.turn.outcomes.items)))
+    by_status false s = rw s (rw s refl)
 
 pub no_reply : (kind : CopyKind) (past : List ServerEvent) (m : FileServer) → CameBy kind past m → m.waiting.items ≡ [] → next_reply kind past ≡ None
 no_reply kind past m c e = reply-is kind past ∙ ap (λ (o : Option Request). reply_with o (standing_status past) (source_in_hand past) (all_of (outcomes_so_far kind past))) (handled-none kind past m c e)

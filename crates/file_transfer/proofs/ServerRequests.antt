@@ -73,6 +73,7 @@ of_fields : (bytes : List ℕ) → Passes bytes → IsRequest (request_fields by
 of_fields bytes p = by_lists (lists_descriptors bytes) refl p.count where
   sized : HasLength bytes (request_fields bytes)
   sized = of_length bytes (request_fields bytes) p.len
+
   -- a WRITE over registered pages lists descriptors
   fetches : is_fetched (request_fields bytes) ≡ true → (lists_descriptors bytes ≡ true) × ((u16_at 0 bytes == END) ≡ false)
   fetches e = by_tests (u16_at 0 bytes == WRITE) (u16_at 2 bytes == 0) refl refl e where
@@ -82,16 +83,18 @@ of_fields bytes p = by_lists (lists_descriptors bytes) refl p.count where
         let other : (u16_at 0 bytes == END) ≡ false = not_end (u16_at 0 bytes) h in
         (rw (one, other) refl, other)
       where
-      only_one : (n : ℕ) → (n == 0) ≡ false → nat_lt 1 n ≡ false → (n == 1) ≡ true
-      only_one n a b = grind (arith, nat_tests)
-      not_end : (n : ℕ) → (n == WRITE) ≡ true → (n == END) ≡ false
-      not_end n a = grind (arith, nat_tests)
+        only_one : (n : ℕ) → (n == 0) ≡ false → nat_lt 1 n ≡ false → (n == 1) ≡ true
+        only_one n a b = grind (arith, nat_tests)
+
+        not_end : (n : ℕ) → (n == WRITE) ≡ true → (n == END) ≡ false
+        not_end n a = grind (arith, nat_tests)
     by_tests true true h k e = absurd (let f : ⊥ = cc in f)
     by_tests false z h k e = absurd (let f : ⊥ = cc in f)
+
   by_lists : (t : Bool) → lists_descriptors bytes ≡ t → cond t (is_count (u16_at 20 bytes)) (u16_at 20 bytes == 0) ≡ true → IsRequest (request_fields bytes)
   by_lists true l e =
       let listed : (request_fields bytes).descriptors ≡ descriptors_in (u16_at 20 bytes) (drop 24 bytes) =
-          ap (λ (t : Bool). cond t (descriptors_in (u16_at 20 bytes) (drop 24 bytes)) []) l in
+      ap (λ (t : Bool). cond t (descriptors_in (u16_at 20 bytes) (drop 24 bytes)) []) l in
       let count : length (request_fields bytes).descriptors ≡ u16_at 20 bytes = ap (λ (ds : List Descriptor). length ds) listed ∙ length-descriptors (u16_at 20 bytes) (drop 24 bytes) in
       let bounds : (1 ≤ u16_at 20 bytes) × (u16_at 20 bytes ≤ 16) = in_count (u16_at 20 bytes) e in
       record {
@@ -103,19 +106,20 @@ of_fields bytes p = by_lists (lists_descriptors bytes) refl p.count where
         whole = λ f. sized.whole l (fetches f).1;
       }
     where
-    in_count : (n : ℕ) → is_count n ≡ true → (1 ≤ n) × (n ≤ 16)
-    in_count n h = by_bounds (nat_le 1 n) (nat_le n 16) refl refl h where
-      by_bounds : (a b : Bool) → nat_le 1 n ≡ a → nat_le n 16 ≡ b → (a && b) ≡ true → (1 ≤ n) × (n ≤ 16)
-      by_bounds true true p q e = (grind (arith, nat_tests), grind (arith, nat_tests))
-      by_bounds true false p q e = absurd (let f : ⊥ = cc in f)
-      by_bounds false b p q e = absurd (let f : ⊥ = cc in f)
-    not_both : (w : Bool) (n : ℕ) (t : Bool) → (w && n == 0) ≡ true → (n == 1 && not t) ≡ true → ⊥
-    not_both w n t a b = by_tests w (n == 0) (n == 1) refl refl a b where
-      by_tests : (w x y : Bool) → (n == 0) ≡ x → (n == 1) ≡ y → (w && x) ≡ true → (y && not t) ≡ true → ⊥
-      by_tests true true true h k a b = grind (arith, nat_tests)
-      by_tests true true false h k a b = let f : ⊥ = cc in f
-      by_tests true false y h k a b = let f : ⊥ = cc in f
-      by_tests false x y h k a b = let f : ⊥ = cc in f
+      in_count : (n : ℕ) → is_count n ≡ true → (1 ≤ n) × (n ≤ 16)
+      in_count n h = by_bounds (nat_le 1 n) (nat_le n 16) refl refl h where
+        by_bounds : (a b : Bool) → nat_le 1 n ≡ a → nat_le n 16 ≡ b → (a && b) ≡ true → (1 ≤ n) × (n ≤ 16)
+        by_bounds true true p q e = (grind (arith, nat_tests), grind (arith, nat_tests))
+        by_bounds true false p q e = absurd (let f : ⊥ = cc in f)
+        by_bounds false b p q e = absurd (let f : ⊥ = cc in f)
+
+      not_both : (w : Bool) (n : ℕ) (t : Bool) → (w && n == 0) ≡ true → (n == 1 && not t) ≡ true → ⊥
+      not_both w n t a b = by_tests w (n == 0) (n == 1) refl refl a b where
+        by_tests : (w x y : Bool) → (n == 0) ≡ x → (n == 1) ≡ y → (w && x) ≡ true → (y && not t) ≡ true → ⊥
+        by_tests true true true h k a b = grind (arith, nat_tests)
+        by_tests true true false h k a b = let f : ⊥ = cc in f
+        by_tests true false y h k a b = let f : ⊥ = cc in f
+        by_tests false x y h k a b = let f : ⊥ = cc in f
   by_lists false l e =
       let unlisted : (request_fields bytes).descriptors ≡ [] = ap (λ (t : Bool). cond t (descriptors_in (u16_at 20 bytes) (drop 24 bytes)) []) l in
       record {
@@ -150,14 +154,18 @@ accepted kind q given message r e = by_fault q.fault refl e where
     by_late : (a b c d : Bool) → (((not a || b) || c) || d) ≡ false → a ≡ true
     by_late true b c d h = refl
     by_late false b c d h = absurd (let f : ⊥ = cc in f)
+
     by_late_too : (a b c d g : Bool) → ((((not a || b) || c) || d) || g) ≡ false → a ≡ true
     by_late_too true b c d g h = refl
     by_late_too false b c d g h = absurd (let f : ⊥ = cc in f)
+
     equal : (m n : ℕ) → (m == n) ≡ true → m ≡ n
     equal m n h = grind (arith, nat_tests)
+
     by_kind : (k : CopyKind) → is_out_of_turn k q.accepted given x ≡ false → x.id ≡ length q.accepted + 1
     by_kind kinds.Put h = equal x.id (length q.accepted + 1) (by_late _ _ _ _ h)
     by_kind kinds.Get h = equal x.id (length q.accepted + 1) (by_late_too _ _ _ _ _ h)
+
   by_read : (o : Result Request FileFault) → request_of message ≡ o → q.fault ≡ None → judged kind q.accepted given o ≡ Ok r → IsAccepted kind q given message r
   by_read (Err fault) h f e = absurd (let b : ⊥ = cc in b)
   by_read (Ok x) h f e = by_turn (is_out_of_turn kind q.accepted given x) refl e where
@@ -166,6 +174,7 @@ accepted kind q given message r e = by_fault q.fault refl e where
     by_turn false t e =
         let same : x ≡ r = cc in
         subst (λ (y : Request). IsAccepted kind q given message y) same (record { faultless = f; read = is_request message x h; next = in_turn x t })
+
   by_fault : (o : Option FileFault) → q.fault ≡ o → judged_after o (judged kind q.accepted given (request_of message)) ≡ Ok r → IsAccepted kind q given message r
   by_fault (Some fault) h e = absurd (let b : ⊥ = cc in b)
   by_fault None h e = by_read (request_of message) refl h e

@@ -26,9 +26,9 @@ due-start kind past e = by_handled (handled kind past) where
       let none : cond (r.op == READ) (places_in_hand r None) [] ≡ [] = by_op (r.op == READ) in
       ap (λ (ws : List Work). cond (standing_status past == 0) ws []) (jobs ∙ ap (λ (ws : List Work). cond (r.op == WRITE) (map (λ (d : Descriptor). Fetch d) r.descriptors) ws) none)
     where
-    by_op : (t : Bool) → cond {A = List Work} t [] [] ≡ []
-    by_op true = refl
-    by_op false = refl
+      by_op : (t : Bool) → cond {A = List Work} t [] [] ≡ []
+      by_op true = refl
+      by_op false = refl
 
 pub outcomes-start : (kind : CopyKind) (past : List ServerEvent) → jobs_in_hand past ≡ 0 → ((n : ℕ) → jobs_given past ≤ n → result_at n past ≡ None)
     → outcomes_so_far kind past ≡ map (λ (w : Work). None) (jobs_due kind past)
@@ -53,22 +53,22 @@ group-first r status q = by_status (status == 0) refl where
           let some : 1 ≤ length r.descriptors = q.some (rw (w, h) refl) in
           rw (w, h) (missing r.descriptors some)
         where
-        missing : (ds : List Descriptor) → 1 ≤ length ds → group_of r (all_of (map (λ (w : Work). None) (map (λ (d : Descriptor). Fetch d) ds))) ≡ []
-        missing [] h = absurd (omega arith)
-        missing (d ∷ ds) h = refl
+          missing : (ds : List Descriptor) → 1 ≤ length ds → group_of r (all_of (map (λ (w : Work). None) (map (λ (d : Descriptor). Fetch d) ds))) ≡ []
+          missing [] h = absurd (omega arith)
+          missing (d ∷ ds) h = refl
 
 pub group-start : (kind : CopyKind) (past : List ServerEvent) → source_in_hand past ≡ None → jobs_in_hand past ≡ 0
     → ((n : ℕ) → jobs_given past ≤ n → result_at n past ≡ None) → ((r : Request) → handled kind past ≡ Some r → IsRequest r)
     → group_in_hand kind past ≡ group_at_start (standing_status past) (handled kind past)
 group-start kind past s e ahead read = group-is kind past
     ∙ ap (λ (os : List (Option WorkResult)). group_with (handled kind past) (standing_status past) (all_of os))
-      (outcomes-start kind past e ahead ∙ ap (λ (ws : List Work). map (λ (w : Work). None) ws) (due-start kind past s))
+    (outcomes-start kind past e ahead ∙ ap (λ (ws : List Work). map (λ (w : Work). None) ws) (due-start kind past s))
     ∙ by_handled (handled kind past) read
   where
-  by_handled : (o : Option Request) → ((r : Request) → o ≡ Some r → IsRequest r)
-      → group_with o (standing_status past) (all_of (map (λ (w : Work). None) (jobs_at_start (standing_status past) o))) ≡ group_at_start (standing_status past) o
-  by_handled None q = refl
-  by_handled (Some r) q = group-first r (standing_status past) (q r refl)
+    by_handled : (o : Option Request) → ((r : Request) → o ≡ Some r → IsRequest r)
+        → group_with o (standing_status past) (all_of (map (λ (w : Work). None) (jobs_at_start (standing_status past) o))) ≡ group_at_start (standing_status past) o
+    by_handled None q = refl
+    by_handled (Some r) q = group-first r (standing_status past) (q r refl)
 
 length-fetches : (ds : List Descriptor) → length (map (λ (d : Descriptor). Fetch d) ds) ≡ length ds
 length-fetches [] = refl
@@ -81,6 +81,7 @@ few-start status None q = at_least 16 where
 few-start status (Some r) q = by_status (status == 0) (r.op == WRITE) where
   few : length (map (λ (d : Descriptor). Fetch d) r.descriptors) ≤ 16
   few = omega (arith, (q r refl).few, length-fetches r.descriptors)
+
   by_status : (t w : Bool) → length (cond {A = List Work} t (cond w (map (λ (d : Descriptor). Fetch d) r.descriptors) []) []) ≤ 16
   by_status true true = few
   by_status true false = at_least 16 where
@@ -103,10 +104,10 @@ group-fetched status r far =
     let over : (r.channel == 0) ≡ false = grind (arith, nat_tests) in
     rw over (by_tests (status == 0) (r.op == WRITE))
   where
-  by_tests : (s w : Bool) → cond s (cond (w && false) (r.inline ∷ []) []) [] ≡ []
-  by_tests true true = refl
-  by_tests true false = refl
-  by_tests false w = refl
+    by_tests : (s w : Bool) → cond s (cond (w && false) (r.inline ∷ []) []) [] ≡ []
+    by_tests true true = refl
+    by_tests true false = refl
+    by_tests false w = refl
 
 pub room-fetched : (status : ℕ) (r : Request) → status ≡ 0 → r.op ≡ 1 → (r.channel ≡ 0 → ⊥) → IsRequest r → total_in (first_jobs status r) ≡ r.length
 room-fetched status r s w far q =

@@ -15,9 +15,7 @@ use crate::server_course::Course;
 use crate::server_outcomes::{joined, note, status_of};
 use crate::server_reply::{ReplyHeader, reply_of};
 use crate::server_turn::{Start, Turn};
-use file_messages::{
-    Completion, CopyKind, FileFault, Job, READ, Request, WRITE, read_request,
-};
+use file_messages::{Completion, CopyKind, FileFault, Job, READ, Request, WRITE, read_request};
 use smbd_base::{Message, NoMemory};
 use std::alloc::Global;
 use std::collections::VecDeque;

@@ -33,10 +33,11 @@ impl Course {
         requires { self.now.written + request.now.length < 2 ^ 64 }
         ensures few { result.accepted < 4294967296 }
         ensures value { result ≡ record {
-            accepted = request.now.id;
-            ended = self.now.ended || request.now.op == END;
-            written = self.now.written + (if request.now.op == WRITE then request.now.length else 0);
-            counted = self.now.counted } }
+          accepted = request.now.id;
+          ended = self.now.ended || request.now.op == END;
+          written = self.now.written + (if request.now.op == WRITE then request.now.length else 0);
+          counted = self.now.counted;
+        } }
     {
         Course {
             accepted: u64::from(request.id),

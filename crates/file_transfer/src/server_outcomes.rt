@@ -48,7 +48,10 @@ pub(crate) fn joined(mut room: Vec<u8>, outcomes: &[Option<WorkResult>]) -> Vec<
 }
 
 /// None of these jobs is completed.
-pub(crate) fn none_yet(alloc: Global, jobs: &VecDeque<Work>) -> Result<Vec<Option<WorkResult>>, NoMemory>
+pub(crate) fn none_yet(
+    alloc: Global,
+    jobs: &VecDeque<Work>,
+) -> Result<Vec<Option<WorkResult>>, NoMemory>
     ensures { IfOk result (λ v. v.items ≡ map (λ (w : Work). None) jobs.now.items) }
 {
     Ok(jobs.iter().map(|_job| None).collect(alloc)?)

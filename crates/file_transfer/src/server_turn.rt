@@ -67,7 +67,12 @@ impl Start {
 
     /// This request is handled, with this status where an earlier one was refused, and 0 else. Its first job gets this
     /// number.
-    pub(crate) fn of(alloc: Global, request: &Request, status: u16, first: u64) -> Result<Start, NoMemory>
+    pub(crate) fn of(
+        alloc: Global,
+        request: &Request,
+        status: u16,
+        first: u64,
+    ) -> Result<Start, NoMemory>
         requires { IsRequest request.now }
         ensures { IfOk result (StartsAs (Some request.now) status first) }
     {
@@ -106,7 +111,12 @@ impl Turn {
     }
 
     /// Takes the bytes for a READ: the jobs that place them are due then.
-    pub(crate) fn fill(&mut self, alloc: Global, request: &Request, bytes: &[u8]) -> Result<(), NoMemory>
+    pub(crate) fn fill(
+        &mut self,
+        alloc: Global,
+        request: &Request,
+        bytes: &[u8],
+    ) -> Result<(), NoMemory>
         requires short { length bytes.now ≤ 65536 }
         requires op { request.now.op ≡ READ }
         ensures same { OnErr result (self.new ≡ self.old) }
@@ -155,7 +165,11 @@ fn fetches(alloc: Global, descriptors: &[Descriptor]) -> Result<VecDeque<Work>, 
 
 /// The jobs that place these bytes, each descriptor filled before the next. The last one names only the bytes that are
 /// left for it.
-fn places(alloc: Global, descriptors: &[Descriptor], bytes: &[u8]) -> Result<VecDeque<Work>, NoMemory>
+fn places(
+    alloc: Global,
+    descriptors: &[Descriptor],
+    bytes: &[u8],
+) -> Result<VecDeque<Work>, NoMemory>
     ensures { IfOk result (λ jobs. jobs.items ≡ places_of descriptors.now bytes.now) }
 {
     let mut jobs = VecDeque::with_capacity(alloc, descriptors.len())?;

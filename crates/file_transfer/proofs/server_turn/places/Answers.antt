@@ -18,6 +18,6 @@ at_end jobs rest all e none = sym (append-nil jobs) ∙ ap (λ (t : List Work). 
 pub returns : goal.returns
 returns c = at_end _ _ _ c.loop-descriptor.invariant
     (elim c.loop-descriptor-test.branch [
-      else-loop-descriptor-test w ↦ ap (λ (ds : List Descriptor). places_of ds c.loop-descriptor.left.now) (drop_all c.loop-descriptor.descriptor-index c.args.descriptors.now (omega arith))
-    | then-loop-descriptor-test+then-is_empty w ↦ none_left _ _ (sym w.is_empty.ensures ∙ w.if-is_empty.true)
+      | else-loop-descriptor-test w ↦ ap (λ (ds : List Descriptor). places_of ds c.loop-descriptor.left.now) (drop_all c.loop-descriptor.descriptor-index c.args.descriptors.now (omega arith))
+      | then-loop-descriptor-test+then-is_empty w ↦ none_left _ _ (sym w.is_empty.ensures ∙ w.if-is_empty.true)
     ])

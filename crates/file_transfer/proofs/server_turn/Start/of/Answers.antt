@@ -10,8 +10,8 @@ use Rattle.file_transfer.proofs.server_turn.Start.of.Goals as goal
 pub returns : goal.returns
 returns c =
     let due : c.in_ok-due.due.items ≡ first_jobs c.args.status c.args.request.now =
-        c.in_ok-due.ensures ∙ ap (λ (ds : List Descriptor). map (λ (d : Descriptor). Fetch d) ds) c.list.ensures
-        ∙ sym (jobs-fetched c.args.status c.args.request.now c.if-status-ne0.false c.if-request-ne-WRITE.false) in
+    c.in_ok-due.ensures ∙ ap (λ (ds : List Descriptor). map (λ (d : Descriptor). Fetch d) ds) c.list.ensures
+    ∙ sym (jobs-fetched c.args.status c.args.request.now c.if-status-ne0.false c.if-request-ne-WRITE.false) in
     let size = room-fetched c.args.status c.args.request.now c.if-status-ne0.false c.if-request-ne-WRITE.false c.if-request-eq0.false c.requires in
     record {
       first_is = refl;
