@@ -1,6 +1,6 @@
 -- A message is handed in as a request.
-use Rattle.std.proofs.Common.{◌≡◌, ℕ, zero, suc, ◌+◌, ◌-◌, ◌*◌, ◌<◌, ◌≤◌, ◌==◌, ◌&&◌, ◌||◌, not, Bool, true, false, cond, Option, Some, None, Result, Ok, Err, List, [], ◌∷◌, ◌++◌, length, map, take, drop, refl, sym, ap, ◌∙◌, subst, arith, append-nil, length-append, ◌⊎◌, inl, inr, Global}
-use Rattle.std.specs.Prelude.{option_map, option_to_list, slice_get, if◌then◌else◌}
+use Rattle.std.proofs.Common.{◌≡◌, ℕ, ◌+◌, ◌-◌, ◌*◌, ◌<◌, ◌≤◌, ◌==◌, ◌&&◌, ◌||◌, Bool, true, false, cond, Option, Some, None, Result, Ok, Err, List, [], ◌∷◌, ◌++◌, length, map, drop, refl, sym, ap, ◌∙◌, subst, arith, append-nil, length-append, ◌⊎◌, inl, inr, Global}
+use Rattle.std.specs.Prelude.{option_to_list, slice_get}
 use Rattle.std.specs.declared.collections.VecDeque.{VecDeque}
 use Rattle.std.specs.VecDeque.{deque_len, deque_capacity}
 use Rattle.std.specs.Vec.{vec_capacity}
@@ -13,13 +13,13 @@ use Rattle.file_messages.specs.declared.message.Request.{Request}
 use Rattle.file_messages.specs.declared.job.Work.{Work}
 use Rattle.file_messages.specs.declared.job.WorkResult.{WorkResult}
 use Rattle.file_messages.specs.Messages.{WRITE, END, request_of}
-use Rattle.file_pasts.specs.ServerDue.{ServerEvent, Asked, Requests, replies, requests, judgement, judged, judged_after, with_judged, has_ended, written, counted, handled, standing_status, source_in_hand, jobs_given, jobs_in_hand, jobs_due, jobs_if_handled, group_in_hand, groups_replied, groups_stored, result_at}
+use Rattle.file_pasts.specs.ServerDue.{ServerEvent, Asked, Requests, replies, requests, judgement, judged, judged_after, with_judged, has_ended, written, handled, standing_status, source_in_hand, jobs_given, jobs_in_hand, jobs_due, jobs_if_handled, group_in_hand, groups_replied, groups_stored, result_at}
 use Rattle.file_transfer.specs.declared.server.FileServer.{FileServer}
 use Rattle.file_transfer.specs.declared.server_course.Course.{Course}
 use Rattle.file_transfer.specs.declared.server_turn.Start.{Start}
-use Rattle.file_transfer.specs.ServerTurn.{outcomes_so_far, outcomes_of, all_of, total_in, filled_for, IsRequest, AreRequests, AreFitting, StartsAs, jobs_at_start, group_at_start, first_group}
+use Rattle.file_transfer.specs.ServerTurn.{outcomes_so_far, outcomes_of, all_of, total_in, filled_for, IsRequest, AreRequests, AreFitting, StartsAs, jobs_at_start, first_group}
 use Rattle.file_transfer.specs.ServerStands.{CameBy, CourseCame, IsSource, AnswersRequest, lasts, after_request}
-use Rattle.file_transfer.proofs.ServerLists.{get-before, get-last, within, beyond, drop_all}
+use Rattle.file_transfer.proofs.ServerLists.{get-before, get-last, within, beyond}
 use Rattle.file_transfer.proofs.ServerOutcomes.{outcomes-same, fitting-none}
 use Rattle.file_transfer.proofs.ServerPasts.{group_with, group-is, handled-some, handled-none, request_at}
 use Rattle.file_transfer.proofs.ServerStarts.{due-start, outcomes-start, group-start, few-start}

@@ -1,5 +1,5 @@
 -- A job of the request that is handled is completed.
-use Rattle.std.proofs.Common.{◌≡◌, ℕ, zero, suc, ◌+◌, ◌-◌, ◌*◌, ◌<◌, ◌≤◌, ◌==◌, ◌&&◌, Bool, true, false, cond, Option, Some, None, List, [], ◌∷◌, ◌++◌, length, map, set, drop, refl, sym, ap, ◌∙◌, subst, arith, append-nil, length-append, Global}
+use Rattle.std.proofs.Common.{◌≡◌, ℕ, ◌+◌, ◌-◌, ◌<◌, ◌≤◌, ◌==◌, ◌&&◌, Bool, true, false, cond, Option, Some, None, List, [], ◌∷◌, ◌++◌, length, map, set, drop, refl, sym, ap, ◌∙◌, subst, arith, append-nil, length-append, Global}
 use Rattle.std.specs.Prelude.{option_map, slice_get}
 use Rattle.std.specs.List.{flat_map}
 use Rattle.std.specs.declared.collections.VecDeque.{VecDeque}
@@ -18,7 +18,7 @@ use Rattle.file_messages.specs.declared.job.Completion.{Completion}
 use Rattle.file_messages.specs.Messages.{WRITE}
 use Rattle.file_pasts.specs.ServerDue.{ServerEvent, Completed, replies, requests, handled, standing_status, jobs_given, jobs_in_hand, jobs_due, jobs_of, jobs_if_handled, group_in_hand, group_of, groups_replied, groups_stored, result_at, fetched, status_of, AnswersJob}
 use Rattle.file_transfer.specs.declared.server.FileServer.{FileServer}
-use Rattle.file_transfer.specs.ServerTurn.{outcomes_so_far, outcomes_of, outcome_bytes, all_of, total_in, AreFitting, AreRequests, IsRequest, fetched_in, status_from, is_success}
+use Rattle.file_transfer.specs.ServerTurn.{outcomes_so_far, outcomes_of, outcome_bytes, all_of, total_in, AreFitting, IsRequest, fetched_in, status_from, is_success}
 use Rattle.file_transfer.specs.ServerStands.{CameBy}
 use Rattle.file_transfer.proofs.ServerLists.{within, split_at}
 use Rattle.file_transfer.proofs.ServerOutcomes.{outcomes-set, missing, status-is, fetched-all, bytes-fit, fitting-set}

@@ -1,7 +1,6 @@
 -- The bytes for a READ are handed in.
-use Rattle.std.proofs.Common.{◌≡◌, ℕ, zero, suc, ◌+◌, ◌-◌, ◌*◌, ◌<◌, ◌≤◌, ◌==◌, ◌&&◌, not, Bool, true, false, cond, is_none, Option, Some, None, List, [], ◌∷◌, ◌++◌, length, map, take, drop, refl, sym, ap, ◌∙◌, subst, arith, Global}
-use Rattle.std.specs.Prelude.{option_map, slice_get, if◌then◌else◌}
-use Rattle.std.specs.declared.collections.VecDeque.{VecDeque}
+use Rattle.std.proofs.Common.{◌≡◌, ℕ, ◌+◌, ◌≤◌, ◌==◌, ◌&&◌, Bool, true, false, cond, is_none, Option, Some, None, List, [], ◌∷◌, ◌++◌, length, map, drop, refl, sym, ap, ◌∙◌, subst, arith, Global}
+use Rattle.std.specs.Prelude.{option_map}
 use Rattle.std.specs.declared.vec.Vec.{Vec}
 use Rattle.std.specs.VecDeque.{deque_len, deque_capacity}
 use Rattle.std.specs.Vec.{vec_capacity}
@@ -12,7 +11,7 @@ use Rattle.file_messages.specs.declared.message.Request.{Request}
 use Rattle.file_messages.specs.declared.job.Work.{Work}
 use Rattle.file_messages.specs.declared.job.WorkResult.{WorkResult}
 use Rattle.file_messages.specs.Messages.{WRITE, READ}
-use Rattle.file_pasts.specs.ServerDue.{ServerEvent, Filled as WasFilled, handled, standing_status, source_in_hand, wants_source, jobs_given, jobs_in_hand, jobs_due, jobs_of, jobs_if_handled, places_of, group_in_hand, groups_replied, groups_stored, group_of, result_at}
+use Rattle.file_pasts.specs.ServerDue.{ServerEvent, Filled as WasFilled, handled, standing_status, source_in_hand, wants_source, jobs_in_hand, jobs_due, jobs_if_handled, places_of, group_in_hand, groups_replied, groups_stored}
 use Rattle.file_transfer.specs.declared.server.FileServer.{FileServer}
 use Rattle.file_transfer.specs.declared.server_turn.Filled.{Filled}
 use Rattle.file_transfer.specs.declared.server_turn.Turn.{Turn}

@@ -1,6 +1,6 @@
 -- A job or a group is given.
-use Rattle.std.proofs.Common.{◌≡◌, ℕ, zero, suc, ◌+◌, ◌-◌, ◌*◌, ◌<◌, ◌≤◌, ◌==◌, Bool, true, false, cond, Option, Some, None, List, [], ◌∷◌, ◌++◌, length, map, drop, refl, sym, ap, ◌∙◌, subst, arith, Global}
-use Rattle.std.specs.Prelude.{option_map, option_to_list, slice_get}
+use Rattle.std.proofs.Common.{◌≡◌, ℕ, suc, ◌+◌, ◌-◌, ◌<◌, ◌≤◌, Option, Some, None, List, [], ◌∷◌, ◌++◌, length, drop, refl, sym, ap, ◌∙◌, subst, arith, Global}
+use Rattle.std.specs.Prelude.{option_to_list, slice_get}
 use Rattle.std.specs.declared.collections.VecDeque.{VecDeque}
 use Rattle.std.specs.VecDeque.{deque_len, deque_capacity}
 use Rattle.std.specs.Vec.{vec_capacity}
@@ -8,13 +8,12 @@ use Rattle.file_messages.specs.declared.kind.CopyKind.{CopyKind}
 use Rattle.file_messages.specs.declared.message.Request.{Request}
 use Rattle.file_messages.specs.declared.job.Work.{Work}
 use Rattle.file_messages.specs.declared.job.WorkResult.{WorkResult}
-use Rattle.file_pasts.specs.ServerDue.{ServerEvent, Gave, Stored, replies, requests, handled, standing_status, source_in_hand, jobs_given, jobs_in_hand, jobs_due, jobs_if_handled, next_job, next_group, group_in_hand, groups_replied, groups_stored}
+use Rattle.file_pasts.specs.ServerDue.{ServerEvent, Gave, Stored, handled, standing_status, jobs_given, jobs_in_hand, jobs_due, jobs_if_handled, next_job, next_group, group_in_hand, groups_replied, groups_stored}
 use Rattle.file_pasts.specs.PutDue.{numbered}
 use Rattle.file_transfer.specs.declared.server.FileServer.{FileServer}
-use Rattle.file_transfer.specs.declared.server_turn.Turn.{Turn}
 use Rattle.file_transfer.specs.ServerTurn.{outcomes_so_far, outcomes_of, all_of, total_in, AreFitting}
 use Rattle.file_transfer.specs.ServerStands.{CameBy, after_giving, after_storing}
-use Rattle.file_transfer.proofs.ServerLists.{next_at, none_at, front_left, drop_more, within}
+use Rattle.file_transfer.proofs.ServerLists.{next_at, none_at, drop_more, within}
 use Rattle.file_transfer.proofs.ServerOutcomes.{outcomes-same}
 use Rattle.file_transfer.proofs.ServerPasts.{group_with, group-is}
 

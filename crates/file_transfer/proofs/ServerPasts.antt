@@ -1,6 +1,6 @@
 -- What is due at a server, by the request that is handled and what came of its jobs.
-use Rattle.std.proofs.Common.{◌≡◌, ℕ, zero, suc, ◌+◌, ◌-◌, ◌<◌, ◌≤◌, ◌==◌, Bool, true, false, cond, Option, Some, None, List, [], ◌∷◌, ◌++◌, length, map, drop, refl, sym, ap, ◌∙◌, subst, arith}
-use Rattle.std.specs.Prelude.{option_map, slice_get, if◌then◌else◌}
+use Rattle.std.proofs.Common.{◌≡◌, ℕ, zero, suc, ◌-◌, ◌==◌, Bool, true, false, cond, Option, Some, None, List, [], ◌∷◌, length, refl, sym, ap, ◌∙◌, subst}
+use Rattle.std.specs.Prelude.{slice_get, if◌then◌else◌}
 use Rattle.file_messages.specs.declared.kind.CopyKind.{CopyKind}
 use Rattle.file_messages.specs.declared.message.Request.{Request}
 use Rattle.file_messages.specs.declared.message.Reply.{Reply}
@@ -9,7 +9,7 @@ use Rattle.file_messages.specs.declared.job.WorkResult.{WorkResult}
 use Rattle.file_messages.specs.Messages.{refusal}
 use Rattle.file_pasts.specs.ServerDue.{ServerEvent, replies, requests, handled, standing_status, source_in_hand, jobs_given, jobs_in_hand, jobs_due, jobs_of, jobs_if_handled, results, group_in_hand, group_if_handled, group_of, next_reply, reply_if_handled, answer_with}
 use Rattle.file_transfer.specs.declared.server.FileServer.{FileServer}
-use Rattle.file_transfer.specs.ServerTurn.{outcomes_so_far, outcomes_of, all_of, IsRequest, AreRequests}
+use Rattle.file_transfer.specs.ServerTurn.{outcomes_so_far, all_of, IsRequest, AreRequests}
 use Rattle.file_transfer.specs.ServerStands.{CameBy}
 use Rattle.file_transfer.proofs.ServerLists.{next_at, none_at}
 use Rattle.file_transfer.proofs.ServerOutcomes.{results-all}

@@ -1,6 +1,6 @@
 -- A reply is given, and the next request is handled.
-use Rattle.std.proofs.Common.{◌≡◌, ℕ, zero, suc, ◌+◌, ◌-◌, ◌*◌, ◌<◌, ◌≤◌, ◌==◌, ◌&&◌, not, Bool, true, false, cond, Option, Some, None, List, [], ◌∷◌, ◌++◌, length, map, take, drop, refl, sym, ap, ◌∙◌, subst, arith, append_assoc, length-append, Global}
-use Rattle.std.specs.Prelude.{option_map, option_to_list, slice_get, if◌then◌else◌}
+use Rattle.std.proofs.Common.{◌≡◌, ℕ, ◌+◌, ◌*◌, ◌≤◌, ◌==◌, not, Bool, true, false, cond, Option, Some, None, List, [], ◌∷◌, ◌++◌, length, map, drop, refl, sym, ap, ◌∙◌, subst, arith, length-append, Global}
+use Rattle.std.specs.Prelude.{option_map, option_to_list, slice_get}
 use Rattle.std.specs.declared.collections.VecDeque.{VecDeque}
 use Rattle.std.specs.VecDeque.{deque_len, deque_capacity}
 use Rattle.std.specs.Vec.{vec_capacity}
@@ -12,12 +12,12 @@ use Rattle.file_messages.specs.declared.message.Reply.{Reply}
 use Rattle.file_messages.specs.declared.job.Work.{Work}
 use Rattle.file_messages.specs.declared.job.WorkResult.{WorkResult}
 use Rattle.file_messages.specs.Messages.{WRITE, READ, reply_bytes, success, refusal}
-use Rattle.file_pasts.specs.ServerDue.{ServerEvent, Replied, replies, requests, handled, counted, first_status, standing_status, source_in_hand, jobs_given, jobs_in_hand, jobs_due, next_reply, read_reply, answer_of, status_of, group_in_hand, groups_replied, groups_stored, result_at}
+use Rattle.file_pasts.specs.ServerDue.{ServerEvent, Replied, replies, requests, handled, counted, first_status, standing_status, source_in_hand, jobs_given, jobs_due, next_reply, read_reply, answer_of, status_of, group_in_hand, groups_replied, groups_stored, result_at}
 use Rattle.file_transfer.specs.declared.server.FileServer.{FileServer}
 use Rattle.file_transfer.specs.declared.server_turn.Filled.{Filled}
 use Rattle.file_transfer.specs.declared.server_turn.Start.{Start}
 use Rattle.file_transfer.specs.declared.server_reply.ReplyHeader.{ReplyHeader}
-use Rattle.file_transfer.specs.ServerTurn.{outcomes_so_far, all_of, total_in, filled_for, filled_with, IsRequest, AreRequests, AreFitting, StartsAs, jobs_at_start, group_at_start, header_in, header_of}
+use Rattle.file_transfer.specs.ServerTurn.{outcomes_so_far, all_of, total_in, filled_for, filled_with, IsRequest, AreFitting, StartsAs, jobs_at_start, header_in, header_of}
 use Rattle.file_transfer.specs.ServerStands.{CameBy, IsSource, after_replying}
 use Rattle.file_transfer.proofs.ServerLists.{second_left, drop_more, within}
 use Rattle.file_transfer.proofs.ServerOutcomes.{fitting-none}

@@ -1,18 +1,16 @@
 -- The reply that is due, by what the server keeps.
-use Rattle.std.proofs.Common.{◌≡◌, ℕ, zero, suc, ◌+◌, ◌-◌, ◌*◌, ◌<◌, ◌≤◌, ◌==◌, ◌&&◌, not, Bool, true, false, cond, is_none, Option, Some, None, List, [], ◌∷◌, ◌++◌, length, map, drop, refl, sym, ap, ◌∙◌, subst, arith}
-use Rattle.std.specs.Prelude.{option_map, slice_get, if◌then◌else◌}
-use Rattle.std.proofs.lemmas.Bool.Decides.{nat_tests}
+use Rattle.std.proofs.Common.{◌≡◌, ℕ, ◌+◌, ◌==◌, ◌&&◌, Bool, true, false, cond, is_none, Option, Some, None, List, [], ◌∷◌, length, refl, sym, ap, ◌∙◌}
+use Rattle.std.specs.Prelude.{option_map, slice_get}
 use Rattle.file_messages.specs.declared.kind.CopyKind.{CopyKind}
 use Rattle.file_messages.specs.declared.message.Request.{Request}
 use Rattle.file_messages.specs.declared.message.Reply.{Reply}
 use Rattle.file_messages.specs.declared.job.WorkResult.{WorkResult}
-use Rattle.file_messages.specs.Messages.{WRITE, READ, reply_bytes, success, refusal}
-use Rattle.file_pasts.specs.ServerDue.{ServerEvent, replies, requests, handled, standing_status, source_in_hand, source_for, wants_source, next_reply, answer_of, answer_with, read_reply, status_of}
+use Rattle.file_messages.specs.Messages.{WRITE, READ, success}
+use Rattle.file_pasts.specs.ServerDue.{ServerEvent, replies, requests, standing_status, source_in_hand, source_for, wants_source, next_reply, answer_of, answer_with, read_reply, status_of}
 use Rattle.file_transfer.specs.declared.server.FileServer.{FileServer}
 use Rattle.file_transfer.specs.declared.server_turn.Filled.{Filled}
-use Rattle.file_transfer.specs.declared.server_reply.ReplyHeader.{ReplyHeader}
-use Rattle.file_transfer.specs.ServerTurn.{outcomes_so_far, all_of, filled_for, filled_with, IsRequest, header_in, header_of, header_with, count_of, status_now, status_from}
-use Rattle.file_transfer.specs.ServerStands.{CameBy, IsSource}
+use Rattle.file_transfer.specs.ServerTurn.{outcomes_so_far, all_of, filled_for, filled_with, IsRequest, header_in, header_of, header_with}
+use Rattle.file_transfer.specs.ServerStands.{CameBy}
 use Rattle.file_transfer.proofs.ServerLists.{second_left}
 use Rattle.file_transfer.proofs.ServerOutcomes.{status-is}
 use Rattle.file_transfer.proofs.ServerPasts.{reply_with, reply-is, handled-some, handled-none, request_at}

@@ -1,7 +1,7 @@
 -- What every request has that bytes say, and every accepted one.
-use Rattle.std.proofs.Common.{◌≡◌, ℕ, zero, suc, ◌+◌, ◌-◌, ◌*◌, ◌<◌, ◌≤◌, ◌==◌, nat_lt, nat_le, ◌&&◌, ◌||◌, not, Bool, true, false, cond, Option, Some, None, Result, Ok, Err, List, [], ◌∷◌, ◌++◌, length, drop, refl, sym, ap, ◌∙◌, subst, arith}
+use Rattle.std.proofs.Common.{◌≡◌, ℕ, zero, suc, ◌+◌, ◌*◌, ◌≤◌, ◌==◌, nat_lt, nat_le, ◌&&◌, ◌||◌, not, Bool, true, false, cond, Option, Some, None, Result, Ok, Err, List, [], ◌∷◌, ◌++◌, length, drop, refl, ap, ◌∙◌, subst, arith}
 use Rattle.std.proofs.lemmas.Bool.Decides.{nat_tests}
-use Rattle.smbd_base.specs.Fields.{u16_at, u32_at}
+use Rattle.smbd_base.specs.Fields.{u16_at}
 use Rattle.buffer_descriptor.specs.declared.descriptor.Descriptor.{Descriptor}
 use Rattle.file_messages.specs.declared.kind.CopyKind.{CopyKind}
 use Rattle.file_messages.specs.declared.kind.CopyKind.TheVariants as kinds

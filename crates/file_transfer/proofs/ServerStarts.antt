@@ -1,6 +1,6 @@
 -- What is due as soon as a request is handled.
-use Rattle.std.proofs.Common.{◌≡◌, ℕ, zero, suc, ◌+◌, ◌-◌, ◌*◌, ◌<◌, ◌≤◌, ◌==◌, ◌&&◌, not, Bool, true, false, cond, Option, Some, None, List, [], ◌∷◌, ◌++◌, length, map, drop, refl, sym, ap, ◌∙◌, subst, arith}
-use Rattle.std.specs.Prelude.{option_map, slice_get, if◌then◌else◌}
+use Rattle.std.proofs.Common.{◌≡◌, ℕ, ◌-◌, ◌≤◌, ◌==◌, ◌&&◌, Bool, true, false, cond, Option, Some, None, List, [], ◌∷◌, length, map, refl, ap, ◌∙◌, arith}
+use Rattle.std.specs.Prelude.{if◌then◌else◌}
 use Rattle.std.proofs.lemmas.Bool.Decides.{nat_tests}
 use Rattle.buffer_descriptor.specs.declared.descriptor.Descriptor.{Descriptor}
 use Rattle.file_messages.specs.declared.kind.CopyKind.{CopyKind}
@@ -10,7 +10,7 @@ use Rattle.file_messages.specs.declared.job.Work.TheVariants.{Fetch}
 use Rattle.file_messages.specs.declared.job.WorkResult.{WorkResult}
 use Rattle.file_messages.specs.Messages.{WRITE, READ}
 use Rattle.file_pasts.specs.ServerDue.{ServerEvent, handled, standing_status, source_in_hand, jobs_given, jobs_in_hand, jobs_due, jobs_of, jobs_if_handled, places_in_hand, group_in_hand, group_of, result_at}
-use Rattle.file_transfer.specs.ServerTurn.{outcomes_so_far, outcomes_of, all_of, total_in, IsRequest, is_fetched, first_jobs, jobs_at_start, first_group, group_at_start}
+use Rattle.file_transfer.specs.ServerTurn.{outcomes_so_far, all_of, total_in, IsRequest, first_jobs, jobs_at_start, first_group, group_at_start}
 use Rattle.file_transfer.proofs.ServerOutcomes.{outcomes-ahead, total-fetches}
 use Rattle.file_transfer.proofs.ServerPasts.{group_with, group-is}
 

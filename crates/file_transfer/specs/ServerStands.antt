@@ -1,8 +1,7 @@
 -- How a server stands after its past.
-use Rattle.std.specs.Prelude.{◌≡◌, ℕ, ◌+◌, ◌-◌, ◌*◌, ◌^◌, ◌==◌, ◌<◌, ◌≤◌, ◌&&◌, not, nat_lt, Bool, true, false, Option, Some, None, option_map, Result, Ok, Err, IsOk, List, [], ◌∷◌, ◌++◌, length, drop, map, if◌then◌else◌}
+use Rattle.std.specs.Prelude.{◌≡◌, ℕ, ◌+◌, ◌-◌, ◌*◌, ◌<◌, ◌≤◌, Bool, true, false, Option, Some, None, Result, Ok, Err, IsOk, List, [], ◌∷◌, ◌++◌, length, drop}
 use Rattle.std.specs.VecDeque.{deque_len, deque_capacity}
 use Rattle.std.specs.Vec.{vec_capacity}
-use Rattle.buffer_descriptor.specs.declared.descriptor.Descriptor.{Descriptor}
 use Rattle.file_messages.specs.declared.kind.CopyKind.{CopyKind}
 use Rattle.file_messages.specs.declared.fault.FileFault.{FileFault}
 use Rattle.file_messages.specs.declared.fault.FileFault.TheVariants.{NoMemory}
@@ -10,12 +9,12 @@ use Rattle.file_messages.specs.declared.message.Request.{Request}
 use Rattle.file_messages.specs.declared.message.Reply.{Reply}
 use Rattle.file_messages.specs.declared.job.Job.{Job}
 use Rattle.file_messages.specs.declared.job.Completion.{Completion}
-use Rattle.file_messages.specs.Messages.{WRITE, READ, END, request_of}
-use Rattle.file_pasts.specs.ServerDue.{ServerEvent, Asked, Filled, Gave, Completed, Replied, Stored, replies, jobs_given, jobs_in_hand, result_at, source_in_hand, groups_stored, Requests, requests, judgement, has_ended, written, counted, handled, standing_status, jobs_due, next_job, next_reply, wants_source, group_in_hand, groups_replied, next_group, IsServer, AnswersJob}
+use Rattle.file_messages.specs.Messages.{READ}
+use Rattle.file_pasts.specs.ServerDue.{ServerEvent, Asked, Gave, Replied, Stored, replies, jobs_given, jobs_in_hand, result_at, source_in_hand, groups_stored, requests, judgement, has_ended, written, counted, handled, standing_status, jobs_due, wants_source, group_in_hand, groups_replied, IsServer, AnswersJob}
 use Rattle.file_transfer.specs.declared.server_turn.Turn.{Turn}
 use Rattle.file_transfer.specs.declared.server_course.Course.{Course}
 use Rattle.file_transfer.specs.declared.server.FileServer.{FileServer}
-use Rattle.file_transfer.specs.ServerTurn.{outcomes_so_far, all_of, total_in, filled_for, IsRequest, AreRequests, AreFitting}
+use Rattle.file_transfer.specs.ServerTurn.{outcomes_so_far, all_of, total_in, filled_for, AreRequests, AreFitting}
 
 -- bytes are there only for a READ that is handled, and at most so many as it asks for
 abbrev pub IsSource : Option Request → Option (List ℕ) → Type 0

@@ -1,6 +1,5 @@
 -- The request that a server handles: its jobs, what came of them, and what is to be replied.
-use Rattle.std.specs.Prelude.{◌≡◌, ℕ, ◌+◌, ◌-◌, ◌==◌, ◌<◌, ◌≤◌, ◌&&◌, ◌||◌, not, Bool, true, false, Option, Some, None, option_map, option_to_list, List, [], ◌∷◌, ◌++◌, length, map, if◌then◌else◌}
-use Rattle.std.specs.List.{flat_map}
+use Rattle.std.specs.Prelude.{◌≡◌, ℕ, ◌+◌, ◌-◌, ◌==◌, ◌≤◌, ◌&&◌, ◌||◌, not, Bool, true, false, Option, Some, None, option_map, option_to_list, List, [], ◌∷◌, length, map, if◌then◌else◌}
 use Rattle.std.specs.Vec.{vec_capacity}
 use Rattle.buffer_descriptor.specs.declared.descriptor.Descriptor.{Descriptor}
 use Rattle.file_messages.specs.declared.kind.CopyKind.{CopyKind}
@@ -10,7 +9,7 @@ use Rattle.file_messages.specs.declared.job.Work.{Work}
 use Rattle.file_messages.specs.declared.job.Work.TheVariants.{Fetch}
 use Rattle.file_messages.specs.declared.job.WorkResult.{WorkResult}
 use Rattle.file_messages.specs.Messages.{WRITE, READ, sum_of_lengths, reply_bytes, success, refusal}
-use Rattle.file_pasts.specs.ServerDue.{ServerEvent, jobs_given, jobs_in_hand, jobs_due, result_in_front, result_at, status_in, status_of, fetched, read_reply, Fits}
+use Rattle.file_pasts.specs.ServerDue.{ServerEvent, jobs_given, jobs_in_hand, jobs_due, result_in_front, result_at, status_in, fetched, read_reply, Fits}
 use Rattle.file_transfer.specs.declared.server_turn.Filled.{Filled}
 use Rattle.file_transfer.specs.declared.server_turn.Start.{Start}
 use Rattle.file_transfer.specs.declared.server_reply.ReplyHeader.{ReplyHeader}

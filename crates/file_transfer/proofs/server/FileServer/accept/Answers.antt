@@ -1,4 +1,4 @@
-use Rattle.std.proofs.Common.{◌≡◌, ◌+◌, ◌<◌, ◌≤◌, ℕ, length, refl, sym, ap, ◌∙◌, subst, arith}
+use Rattle.std.proofs.Common.{◌<◌, length, sym, ap, ◌∙◌, subst, arith}
 use Rattle.file_transfer.specs.declared.server_course.Course.{Course}
 use Rattle.file_transfer.proofs.ServerRequests.{accepted}
 use Rattle.file_transfer.proofs.ServerAsked.{written-fits, came-queued, came-handled, no_groups, nothing_waits, one_group}

@@ -1,11 +1,8 @@
-use Rattle.std.proofs.Common.{◌≡◌, ◌+◌, ◌≤◌, ◌++◌, List, ℕ, Some, None, Option, refl, sym, ap, ◌∙◌, arith}
+use Rattle.std.proofs.Common.{◌++◌, List, ℕ, Some, None, Option, sym, ap, ◌∙◌, arith}
 use Rattle.std.specs.Prelude.{option_map, option_to_list}
 use Rattle.file_messages.specs.declared.message.Reply.{Reply}
 use Rattle.file_messages.specs.Messages.{reply_bytes}
-use Rattle.file_pasts.specs.ServerDue.{next_reply}
-use Rattle.file_transfer.specs.ServerStands.{CameBy, after_replying}
-use Rattle.file_transfer.specs.ServerTurn.{header_in}
-use Rattle.file_transfer.proofs.ServerReplied.{header-none, no_reply_due, reply_due, came-next_message, count-fits, came-no_message}
+use Rattle.file_transfer.proofs.ServerReplied.{header-none, no_reply_due, reply_due, came-next_message, came-no_message}
 use Rattle.file_transfer.proofs.server.FileServer.next_message.Goals as goal
 
 pub returns-in_default-clause-due : goal.returns-in_default-clause-due

@@ -1,4 +1,4 @@
-use Rattle.std.proofs.Common.{◌≤◌, arith}
+use Rattle.std.proofs.Common.{arith}
 use Rattle.file_transfer.proofs.ServerReplies.{front-read}
 use Rattle.file_transfer.proofs.server.FileServer.reply.Goals as goal
 

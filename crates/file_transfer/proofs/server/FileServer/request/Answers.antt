@@ -1,6 +1,6 @@
-use Rattle.std.proofs.Common.{◌≡◌, ◌∙◌, true, Some, None, refl, sym}
+use Rattle.std.proofs.Common.{◌≡◌, ◌∙◌, true, Some, sym}
 use Rattle.file_transfer.specs.ServerStands.{lasts}
-use Rattle.file_transfer.proofs.ServerAsked.{judged-first, answers, after-either, after-lasting, after-memory, lasting, came-still_refused, came-refused}
+use Rattle.file_transfer.proofs.ServerAsked.{judged-first, after-either, after-lasting, lasting, came-still_refused, came-refused}
 use Rattle.file_transfer.proofs.server.FileServer.request.Goals as goal
 
 pub returns-in-Some-clause-after : goal.returns-in-Some-clause-after

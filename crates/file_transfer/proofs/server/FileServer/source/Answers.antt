@@ -1,4 +1,4 @@
-use Rattle.std.proofs.Common.{◌≡◌, ◌≤◌, ◌∙◌, drop, arith, refl}
+use Rattle.std.proofs.Common.{◌∙◌, drop, arith, refl}
 use Rattle.file_transfer.proofs.ServerFilled.{came-filled, wanted-still, unwanted, most-wanted}
 use Rattle.file_transfer.proofs.server.FileServer.source.Goals as goal
 

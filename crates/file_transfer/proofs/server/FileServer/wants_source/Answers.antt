@@ -1,4 +1,4 @@
-use Rattle.std.proofs.Common.{◌≡◌, ℕ, Bool, true, false, cond, Option, Some, None, drop, refl, sym, ap, ◌∙◌}
+use Rattle.std.proofs.Common.{◌≡◌, ℕ, Bool, true, false, cond, Some, None, drop, refl, sym, ap, ◌∙◌}
 use Rattle.std.specs.Bool.{then_some}
 use Rattle.file_transfer.proofs.ServerReplies.{wants-is}
 use Rattle.file_transfer.proofs.server.FileServer.wants_source.Goals as goal

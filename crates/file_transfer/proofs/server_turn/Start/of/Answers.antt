@@ -1,8 +1,7 @@
-use Rattle.std.proofs.Common.{◌≡◌, ◌≤◌, List, map, refl, sym, ap, ◌∙◌, arith, Option, None}
+use Rattle.std.proofs.Common.{◌≡◌, List, map, refl, sym, ap, ◌∙◌, arith, None}
 use Rattle.buffer_descriptor.specs.declared.descriptor.Descriptor.{Descriptor}
 use Rattle.file_messages.specs.declared.job.Work.{Work}
 use Rattle.file_messages.specs.declared.job.Work.TheVariants.{Fetch}
-use Rattle.file_messages.specs.declared.job.WorkResult.{WorkResult}
 use Rattle.file_transfer.specs.ServerTurn.{first_jobs}
 use Rattle.file_transfer.proofs.ServerStarts.{jobs-fetched, group-fetched, room-fetched}
 use Rattle.file_transfer.proofs.server_turn.Start.of.Goals as goal
