@@ -1,0 +1,6 @@
+pub mod ClientJobs
+pub mod PutClientStands
+pub mod PutInlineStands
+pub mod PutPagesStand
+pub mod PutRegisteredStands
+pub mod PutStands
