@@ -28,7 +28,7 @@ unfolding count
 count-append f [] ys = omega arith
 count-append f (x ∷ xs) ys = omega (arith, count-append f xs ys)
 
-count_open-append : (f : Work → Bool) (xs : List Job) (job : Job) → count_open f (xs ++ job ∷ []) ≡ count_open f xs + one_if (f job.work)
+pub count_open-append : (f : Work → Bool) (xs : List Job) (job : Job) → count_open f (xs ++ job ∷ []) ≡ count_open f xs + one_if (f job.work)
 unfolding count_open
 count_open-append f [] job = omega arith
 count_open-append f (x ∷ xs) job = omega (arith, count_open-append f xs job)

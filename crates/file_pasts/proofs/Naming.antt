@@ -59,20 +59,20 @@ unfolding Steps
 steps w m some =
     division w (m / w) (m % w) ((m + 1) / w) ((m + 1) % w) some (mod-lt m some) (mod-lt (m + 1) some) (omega (arith, div-add-mod m w, div-add-mod (m + 1) w))
 
-bit : Bool → ℕ
+unfoldable pub bit : Bool → ℕ
 bit true = 1
 bit false = 0
 
 -- how many of so many groups, the first of them after j others, use the window v
-pub uses : ℕ → ℕ → ℕ → ℕ → ℕ
+unfoldable pub uses : ℕ → ℕ → ℕ → ℕ → ℕ
 uses w v j zero = 0
 uses w v j (suc n) = bit (v == j % w) + uses w v (j + 1) n
 
 -- how many of the first m groups use it
-used : ℕ → ℕ → ℕ → ℕ
+unfoldable pub used : ℕ → ℕ → ℕ → ℕ
 used w v m = m / w + bit (nat_lt v (m % w))
 
-used-step : (w v m : ℕ) → 0 < w → v < w → used w v (m + 1) ≡ used w v m + bit (v == m % w)
+pub used-step : (w v m : ℕ) → 0 < w → v < w → used w v (m + 1) ≡ used w v m + bit (v == m % w)
 unfolding used bit Steps
 used-step w v m some below = by_step (steps w m some) where
   by_tests : (a b c : Bool) → nat_lt v (m % w + 1) ≡ a → nat_lt v (m % w) ≡ b → (v == m % w) ≡ c → bit a ≡ bit b + bit c
@@ -97,7 +97,7 @@ used-step w v m some below = by_step (steps w m some) where
       let none : nat_lt v 0 ≡ false = grind (arith, nat_tests) in
       omega (arith, s.0, one, ap bit wide, ap bit none, ap (λ (k : ℕ). bit (nat_lt v k)) s.1)
 
-uses-used : (w v j n : ℕ) → 0 < w → v < w → uses w v j n + used w v j ≡ used w v (j + n)
+pub uses-used : (w v j n : ℕ) → 0 < w → v < w → uses w v j n + used w v j ≡ used w v (j + n)
 unfolding uses
 uses-used w v j zero some below = let e : j + 0 ≡ j = omega arith in omega (arith, ap (used w v) e)
 uses-used w v j (suc n) some below =
@@ -163,7 +163,7 @@ pl-at w q (suc n) j (x ∷ gs) g part e h =
     ∙ pl-at w q n (j + 1) gs g part e (ap (λ (k : ℕ). part_on w q k g) (let z : j + 1 + n ≡ j + suc n = omega arith in z) ∙ h)
 
 -- each of so many groups is whole
-pub Wholes : List (List ℕ) → Type 0
+unfoldable pub Wholes : List (List ℕ) → Type 0
 Wholes [] = Unit {0}
 Wholes (g ∷ gs) = (length g ≡ 65536) × Wholes gs
 
@@ -190,7 +190,7 @@ length-pl w q j (g ∷ gs) a = omega (arith, length-append (part_on w q j g) (pl
 
 -- ---- what was sent
 
-in_turn : (s : Setup) (past : List ClientEvent) → IsPut s past → (length (requests_sent past) ≤ length (groups_in past) + 1) × (is_ended past ≡ false → length (requests_sent past) ≤ length (groups_in past))
+pub in_turn : (s : Setup) (past : List ClientEvent) → IsPut s past → (length (requests_sent past) ≤ length (groups_in past) + 1) × (is_ended past ≡ false → length (requests_sent past) ≤ length (groups_in past))
 unfolding SentCase
 in_turn s [] p = (omega arith, λ h. omega arith)
 in_turn s (Group bytes ∷ past) p =
@@ -226,7 +226,7 @@ all_short s (Gave work ∷ past) p = all_short s past p.1
 all_short s (Completed c ∷ past) p = all_short s past p.1
 all_short s (Received bytes ∷ past) p = all_short s past p.1
 
-wholes_of : (gs : List (List ℕ)) → are_whole gs ≡ true → Wholes gs
+pub wholes_of : (gs : List (List ℕ)) → are_whole gs ≡ true → Wholes gs
 unfolding Wholes
 wholes_of [] e = tt
 wholes_of (g ∷ gs) e = by_test (length g == 65536) (are_whole gs) refl e (λ (h : are_whole gs ≡ true). wholes_of gs h) where
@@ -234,7 +234,7 @@ wholes_of (g ∷ gs) e = by_test (length g == 65536) (are_whole gs) refl e (λ (
   by_test true u p h f = (let x : length g ≡ 65536 = grind (arith, nat_tests) in x, f h)
   by_test false u p h f = absurd (let b : ⊥ = cc in b)
 
-wholes_take : (n : ℕ) (gs : List (List ℕ)) → Wholes gs → Wholes (take n gs)
+pub wholes_take : (n : ℕ) (gs : List (List ℕ)) → Wholes gs → Wholes (take n gs)
 unfolding Wholes
 wholes_take zero gs a = tt
 wholes_take (suc n) [] a = tt
@@ -261,10 +261,10 @@ wholes_before s (Received bytes ∷ past) n g p e = wholes_before s past n g p.1
 
 -- ---- what WRITEs named
 
-first_page : (w n : ℕ) → page_of w (n + 1) 0 ≡ n % w * 16
+pub first_page : (w n : ℕ) → page_of w (n + 1) 0 ≡ n % w * 16
 first_page w n = ap (λ (k : ℕ). k % w * 16 + 0) (let e : n + 1 - 1 ≡ n = omega arith in e) ∙ (let e : n % w * 16 + 0 ≡ n % w * 16 = omega arith in e)
 
-few_pages : (g : List ℕ) → length g ≤ 65536 → length (pages_of g) ≤ 16
+pub few_pages : (g : List ℕ) → length g ≤ 65536 → length (pages_of g) ≤ 16
 few_pages g h = omega (arith, length-parts ((length g + (4096 - 1)) / 4096) 4096 g)
 
 length-part_at : (first q : ℕ) (parts : List (List ℕ)) → length (part_at first parts q) ≡ named_at first (first + length parts) q
@@ -293,7 +293,7 @@ names-part w q n g past ds short e =
     names-pages q (page_of w (n + 1) 0) (pages_of g) past ds e ∙ sym (length-part_at (page_of w (n + 1) 0) q (pages_of g))
     ∙ ap length (ap (λ (k : ℕ). part_at k (pages_of g) q) (first_page w n) ∙ window (n % w) q (pages_of g) (few_pages g short))
 
-named-is : (w q : ℕ) (past : List ClientEvent) → IsPut (over w) past → named_on q past ≡ length (pl w q 0 (take (length (requests_sent past)) (groups_in past)))
+pub named-is : (w q : ℕ) (past : List ClientEvent) → IsPut (over w) past → named_on q past ≡ length (pl w q 0 (take (length (requests_sent past)) (groups_in past)))
 unfolding pl SentCase
 named-is w q [] p = refl
 named-is w q (Group bytes ∷ past) p =

@@ -9,3 +9,10 @@ pub mod ServerFilled
 pub mod ServerReplied
 pub mod ServerRequests
 pub mod ServerAsked
+pub mod PutClientLemmas
+pub mod PutBounds
+pub mod ClientJobsLemmas
+pub mod PutInlineLemmas
+pub mod PutPagesLemmas
+pub mod PutRegisteredLemmas
+pub mod PutRequestsLemmas

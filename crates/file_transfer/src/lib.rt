@@ -1,10 +1,23 @@
-//! The file layer's machines (this project's own).
+//! The file layer's machines (this project's own): the client of a put, and the server of a put and of a get. They take and give
+//! messages, and jobs for whoever works on registered pages; they keep no history, and no clock or thread drives them.
+//!
+//! What each answer means is told by the past: what was handed to the machine and what it gave, the newest first
+//! (`file_pasts`). A contract holds for every past by which the machine came to stand as it does.
 #![tactic(auto)]
 
+mod client_jobs;
+mod loaded_page;
+mod put_client;
+mod put_inline;
+mod put_pages;
+mod put_registered;
+mod put_requests;
 mod server;
 mod server_course;
 mod server_outcomes;
 mod server_reply;
 mod server_turn;
+mod writing;
 
+pub use put_client::PutClient;
 pub use server::FileServer;
