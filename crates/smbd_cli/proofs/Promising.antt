@@ -88,7 +88,7 @@ stops_done source sink log c s ct st bytes b = record {
   moves = record { read = b.read; stored = b.so_far.stored; logged = b.so_far.logged; ended = b.last };
   sound = sound_of c s true true bytes bytes bytes b.so_far.text b.so_far.said (said_whole bytes) (prefix_of-equal bytes bytes refl)
       (λ some. told_first (record { client = c; server = s; bytes = bytes; ended = true; stored = bytes; text = b.so_far.text }) c s true bytes b.so_far.text
-          ([], refl) ([], refl) b.so_far.is_log ([], append-nil b.so_far.text) b.so_far.said (said_whole bytes) (prefix_of-equal bytes bytes refl));
+      ([], refl) ([], refl) b.so_far.is_log ([], append-nil b.so_far.text) b.so_far.said (said_whole bytes) (prefix_of-equal bytes bytes refl));
   ends = (record { logged = b.so_far.is_log; short = b.short; ended = refl; stored = refl; answered = b.so_far.said.to_client ∙ b.so_far.said.replies }, b.last refl);
 }
 
@@ -117,7 +117,7 @@ module _ (source sink log : Stream) (client server : Shown) (ct st : Told) (befo
         moves = record { read = b.read; stored = b.so_far.stored; logged = b.so_far.logged; ended = b.last };
         sound = sound_of b.told_client b.told_server false ended b.earlier (b.earlier ++ bytes) b.earlier b.so_far.text b.so_far.said said (prefix_of-equal b.earlier b.earlier refl)
             (λ some. told_first (record { client = b.told_client; server = b.told_server; bytes = b.earlier ++ bytes; ended = ended; stored = b.earlier; text = b.so_far.text })
-                b.told_client b.told_server false b.earlier b.so_far.text ([], refl) ([], refl) b.so_far.is_log ([], append-nil b.so_far.text) b.so_far.said said (prefix_of-equal b.earlier b.earlier refl));
+            b.told_client b.told_server false b.earlier b.so_far.text ([], refl) ([], refl) b.so_far.is_log ([], append-nil b.so_far.text) b.so_far.said said (prefix_of-equal b.earlier b.earlier refl));
         ends = (whole_begins b.told_client b.told_server b.so_far.text b.so_far.is_log, omega (arith, b.short, b.earlier_is, length-append b.earlier bytes), said.stored);
       }
 
@@ -187,7 +187,7 @@ module _ (source sink log : Stream) (client server : Shown) (ct st : Told) (befo
     sound_stored front stores =
         sound_of client_now.past server_now.past ended ended (b.earlier ++ bytes) (b.earlier ++ bytes) (b.earlier ++ front) (b.so_far.text ++ new_text ct st ce se) said said_now stores
         (λ some. told_first (course_stored front) client_now.past server_now.past ended (b.earlier ++ bytes) (b.so_far.text ++ new_text ct st ce se) ([], refl) ([], refl) log_now
-            ([], append-nil (b.so_far.text ++ new_text ct st ce se)) said said_now stores)
+        ([], append-nil (b.so_far.text ++ new_text ct st ce se)) said said_now stores)
 
     -- the sink failed
     pub stops_storing : (log_now_known sink_now : Option (List ℕ)) (log_faults sink_faults : ℕ) (stored : List ℕ) → Appends log.now log_now_known (new_text ct st ce se) → stored ≡ bytes

@@ -174,8 +174,14 @@ rest_again c s c1 s1 c2 s2 m r h x y =
     let from_client : messages_submitted c2 ≡ messages_submitted c1 = y.other_submitted in
     let from_server : messages_submitted s2 ≡ messages_submitted s1 ++ reply ∷ [] = y.submitted in
     let asked_first : length (messages_submitted s1 ++ reply ∷ []) ≤ length (messages_delivered Server usual_limits s1) =
-    omega (arith, length-append (messages_submitted s1) (reply ∷ []), ap length (x.other_submitted ∙ h.replied), length-map (messages_delivered Server usual_limits s) reply_for,
-    ap length x.delivered, length-append (messages_delivered Server usual_limits s) (m ∷ [])) in
+    omega (
+      arith,
+      length-append (messages_submitted s1) (reply ∷ []),
+      ap length (x.other_submitted ∙ h.replied),
+      length-map (messages_delivered Server usual_limits s) reply_for,
+      ap length x.delivered,
+      length-append (messages_delivered Server usual_limits s) (m ∷ []),
+    ) in
     record {
       pair = beside_back Server Client s2 c2 y.pair;
       sent = record {
