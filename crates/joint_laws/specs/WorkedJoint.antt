@@ -144,8 +144,8 @@ pub record JoinSo : Type 0 where
   pub opened : AreJoint three three opened opened
   pub in_flight : AreJoint three three client_of_two server_of_one
 
--- What does not. Where limits lie in their ranges, the credits follow from the rest, and the two parts on the order from
--- one another: no pair breaks one of these alone.
+-- What does not. What is said of credits is tied to the rules of the ends, and the two parts on the order to one another: the
+-- pairs for these break two parts each.
 pub record JoinNotSo : Type 0 where
   -- an end submits an empty message
   pub client_rules : BreakJust in_client_rules three three (Submit [] ∷ opened) opened
