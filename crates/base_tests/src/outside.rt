@@ -1,3 +1,5 @@
+//! Sources, sinks, the gate and statuses.
+
 use smbd_outside::{
     Failed, Filled, Gate, MemorySink, MemorySource, OpenGate, ReadSource, Sink, Source, Status,
     WriteSink, fill, write_whole,

@@ -1,3 +1,5 @@
+//! Limits, frames and messages.
+
 use smbd_base::{EndId, EndLimits, Frame, LimitFault, Message};
 use std::test::Fail;
 

@@ -1,3 +1,5 @@
+//! One descriptor: its fields, how it is read and written.
+
 ghost use Rattle.std.specs.Prelude.{◌≡◌, IfOk};
 ghost use Rattle.buffer_descriptor.specs.Descriptors.{IsSound, descriptor_of, descriptor_bytes};
 

@@ -1,3 +1,5 @@
+//! Lists of descriptors.
+
 ghost use Rattle.std.specs.Prelude.{◌≡◌, ◌↔◌, IsTrue, IfOk, IfErr};
 ghost use Rattle.buffer_descriptor.specs.Descriptors.{ListsAs, FailsAsList, AreDisjoint};
 

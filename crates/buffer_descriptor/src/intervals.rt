@@ -1,3 +1,5 @@
+//! Which bytes descriptors name: what covers one, and whether they are apart.
+
 ghost use Rattle.std.specs.Prelude.{◌≡◌, ◌↔◌, ◌+◌, ◌^◌, ◌<◌, ◌≤◌, ℕ, IsTrue, true};
 ghost use Rattle.buffer_descriptor.specs.Descriptors.{IsSound, IsCovered, AreDisjoint, names};
 

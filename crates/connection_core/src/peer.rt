@@ -1,3 +1,5 @@
+//! What the peer has said in its negotiation message.
+
 use negotiate_msg::NegotiateRequest;
 use smbd_base::Agreed;
 

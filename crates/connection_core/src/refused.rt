@@ -1,3 +1,5 @@
+//! What a refused call of an end hands back.
+
 use smbd_base::{Frame, Message, SubmitFault, TakeFault};
 
 /// A message that was not accepted, handed back.

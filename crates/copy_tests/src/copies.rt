@@ -1,3 +1,5 @@
+//! Copies over memory: the log byte for byte, faults of the outside, lengths at the bounds.
+
 ghost use Rattle.std.specs.Prelude.{◌≤◌};
 
 use smbd_base::NoMemory;

@@ -1,3 +1,5 @@
+//! The ledger: four numbers, and the calls that change them.
+
 ghost use Rattle.std.specs.Prelude.{◌≡◌, ◌+◌, ◌≤◌, true};
 ghost use Rattle.smbd_base.specs.Limits.{IsWithin};
 ghost use Rattle.credit_ledger.specs.Credits as credits;

@@ -1,3 +1,5 @@
+//! What one end does, step by step, as tables.
+
 mod long;
 mod negotiation;
 mod sizes;

@@ -1,3 +1,5 @@
+//! Why bytes are no line of a log.
+
 use smbd_base::NoMemory;
 use thiserror::Error;
 

@@ -1,3 +1,5 @@
+//! The text of one line.
+
 ghost use Rattle.std.specs.Prelude.{◌≡◌, ◌++◌, ◌∷◌, string_bytes, Ok, IfOk, OnOk};
 ghost use Rattle.std.specs.List.{join_with_byte};
 ghost use Rattle.hex.specs.Hex.{encode_lower, IsBytes};

@@ -1,3 +1,5 @@
+//! What a line tells.
+
 use smbd_base::{Frame, Right, Token};
 
 /// What a line of a log says, beside whose it is (this project's own). Lengths and places are counted in bytes.

@@ -1,3 +1,5 @@
+//! Whose line it is.
+
 ghost use Rattle.std.specs.Prelude.{◌≡◌, ◌++◌, string_bytes, OnOk};
 ghost use Rattle.event_log.specs.Lines as spec;
 

@@ -1,3 +1,5 @@
+//! Worked examples of lines.
+
 ghost use Rattle.std.specs.Prelude.{◌≡◌, map};
 ghost use Rattle.event_log.specs.Reading.{reading_of};
 ghost use Rattle.event_log.specs.Worked.{worked_lines, worked_faults};

@@ -1,3 +1,5 @@
+//! The cutter of one message.
+
 ghost use Rattle.std.specs.Prelude.{◌≡◌, ◌<◌, ◌≤◌, ◌^◌, ◌-◌, ◌++◌, length, map, option_to_list};
 ghost use Rattle.smbd_base.specs.Pieces.{pieces_of};
 ghost use Rattle.fragmenter.specs.Cut.{next_place, piece_at, pieces_left, advanced};

@@ -1,3 +1,5 @@
+//! Worked examples of joint histories.
+
 ghost use Rattle.joint_laws.specs.WorkedJoint.{JoinSo, JoinNotSo};
 
 /// Worked joint histories: what fits together, and for each part of the definition a pair of histories that breaks it.

@@ -1,3 +1,5 @@
+//! Lines of a log, written and read.
+
 ghost use Rattle.std.specs.Prelude.{◌≤◌};
 
 use event_log::LineFault::*;

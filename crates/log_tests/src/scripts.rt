@@ -1,3 +1,5 @@
+//! Scripts, and lines that are none.
+
 use sim_script::{ScriptFault, read_script};
 use smbd_base::EndId;
 use smbd_base::EndId::*;

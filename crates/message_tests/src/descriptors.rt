@@ -1,3 +1,5 @@
+//! Descriptors at the bounds of their fields.
+
 use buffer_descriptor::{
     Descriptor, DescriptorFault, Descriptors, ListFault, covers, disjoint, read, read_list, write,
 };

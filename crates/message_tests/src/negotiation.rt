@@ -1,3 +1,5 @@
+//! Negotiation messages: the written forms, and each field at its bound and beside it.
+
 ghost use Rattle.std.specs.Prelude.{◌+◌, ◌≤◌, length};
 
 use negotiate_msg::NegotiateFault::*;

@@ -1,3 +1,5 @@
+//! Data transfer messages, whole and broken.
+
 ghost use Rattle.std.specs.Prelude.{◌<◌};
 
 use transfer_msg::{DataView, FrameFault, Header, read, write};

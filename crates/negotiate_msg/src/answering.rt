@@ -1,3 +1,5 @@
+//! The answer to a request, and what an end has then agreed.
+
 ghost use Rattle.std.specs.Prelude.{◌≡◌, ◌≤◌};
 ghost use Rattle.negotiate_msg.specs.Shown.{shown_request, shown_response};
 ghost use Rattle.smbd_base.specs.Limits.{Limits};

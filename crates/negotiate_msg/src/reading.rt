@@ -1,3 +1,5 @@
+//! How negotiation messages are read.
+
 ghost use Rattle.std.specs.Prelude.{◌≡◌, IfOk};
 ghost use Rattle.negotiate_msg.specs.Shown.{shown_request, shown_response, shown_request_result, shown_response_result};
 ghost use Rattle.smbd_base.specs.NegotiateMessages.{IsLawfulRequest, IsLawfulResponse, fault_in_request, fault_in_response, read_request_of, read_response_of, request_fields, response_fields};

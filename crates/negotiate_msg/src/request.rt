@@ -1,3 +1,5 @@
+//! The fields of a request, and where they stand.
+
 /// What a negotiate request says (MS-SMBD 2.2.1). Sizes are in bytes.
 #[derive(Clone, Copy, Debug, PartialEq, Eq)]
 pub struct NegotiateRequest {

@@ -1,3 +1,5 @@
+//! The fields of a response, and where they stand.
+
 /// What a negotiate response says (MS-SMBD 2.2.2). Sizes are in bytes.
 #[derive(Clone, Copy, Debug, PartialEq, Eq)]
 pub struct NegotiateResponse {

@@ -1,3 +1,5 @@
+//! What the calls of a pool answer.
+
 use smbd_base::Token;
 
 /// What came of a load. The refusals stand in the order in which they are looked for.

@@ -1,3 +1,5 @@
+//! The passes of a pool: who uses it.
+
 ghost use Rattle.std.specs.Prelude.{◌≡◌, ◌↔◌, ◌++◌, [], IsNone};
 ghost use Rattle.std.specs.Option.{option_to_list};
 

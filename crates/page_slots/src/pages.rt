@@ -1,3 +1,5 @@
+//! The pool of pages.
+
 ghost use Rattle.std.specs.Prelude.{◌≡◌, ◌≢◌, ◌+◌, ◌-◌, ◌<◌, ◌≤◌, length, replicate, IfOk};
 ghost use Rattle.std.specs.List.{range_with_len};
 ghost use Rattle.smbd_base.specs.declared.page_event.PageEvent.TheVariants as events;

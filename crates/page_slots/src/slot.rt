@@ -1,3 +1,5 @@
+//! One page of a pool.
+
 ghost use Rattle.std.specs.Prelude.{◌≡◌, ◌+◌, ◌-◌, ◌==◌, ◌<◌, ◌≤◌, ◌++◌, length, replicate, IfOk};
 ghost use Rattle.smbd_base.specs.declared.page_event.PageEvent.TheVariants.{Load, Fetch, Place, Unload};
 ghost use Rattle.smbd_base.specs.Pages.{IsPageStep, page_after};

@@ -1,3 +1,5 @@
+//! Remote accesses: done, and each refusal, with tokens that are stale, worn or spent.
+
 ghost use Rattle.std.specs.Prelude.{◌≡◌, ◌<◌, length};
 
 use buffer_descriptor::{Descriptor, DescriptorFault, covers};

@@ -1,3 +1,5 @@
+//! Records of pages, issued, held and withdrawn.
+
 ghost use Rattle.std.specs.Prelude.{◌≡◌, ◌<◌, length};
 ghost use Rattle.token_table.specs.Records.{IsInPage};
 

@@ -1,3 +1,5 @@
+//! Pages together with their records.
+
 use buffer_descriptor::Descriptor;
 use page_slots::Access;
 use registration::{Region, Register, Release};

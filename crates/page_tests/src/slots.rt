@@ -1,3 +1,5 @@
+//! Pages that are loaded, used and unloaded.
+
 ghost use Rattle.std.specs.Prelude.{◌≡◌, ◌<◌, length};
 
 use page_slots::{Access, Load, PagePass, Pages};

@@ -1,3 +1,5 @@
+//! Why a piece is refused.
+
 ghost use Rattle.std.specs.Prelude.{◌≡◌};
 
 use smbd_base::{Broken, NoMemory};

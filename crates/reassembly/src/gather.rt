@@ -1,3 +1,5 @@
+//! The gatherer of one message after another.
+
 ghost use Rattle.std.specs.Prelude.{◌≡◌, ◌<◌, ◌≤◌, ◌++◌, None, length, IfOk, IfErr, OnOk};
 ghost use Rattle.smbd_base.specs.Pieces.{gather_fault};
 ghost use Rattle.reassembly.specs.Gathering.{opened, piece_of, piece_fault, with_accepted, message_of, IsRefused};

@@ -1,3 +1,5 @@
+//! What the calls of a region answer.
+
 use buffer_descriptor::Descriptor;
 use page_slots::Access;
 use smbd_base::Token;

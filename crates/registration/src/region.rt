@@ -1,3 +1,5 @@
+//! The region: pages together with their records.
+
 ghost use Rattle.std.specs.Prelude.{◌≡◌, ◌≢◌, ◌+◌, ◌-◌, ◌≤◌, length, replicate, IfOk, None};
 ghost use Rattle.std.specs.List.{range_with_len};
 ghost use Rattle.smbd_base.specs.declared.page_event.PageEvent.TheVariants as events;

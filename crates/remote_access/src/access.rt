@@ -1,3 +1,5 @@
+//! Reads and writes by descriptor.
+
 ghost use Rattle.std.specs.Prelude.{◌≡◌, ◌≢◌, ◌+◌, ◌<◌, ◌≤◌, length};
 ghost use Rattle.smbd_base.specs.Tokens.{number_of};
 ghost use Rattle.smbd_base.specs.Pages.{page_at};

@@ -1,3 +1,5 @@
+//! Worked examples of the lines of runs.
+
 ghost use Rattle.run_log.specs.Worked.{WorkedLines};
 
 /// What some runs write to a log.

@@ -1,3 +1,5 @@
+//! Why a text is no script.
+
 use smbd_base::NoMemory;
 use std::alloc::AllocError;
 use thiserror::Error;

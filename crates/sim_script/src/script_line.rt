@@ -1,3 +1,5 @@
+//! What a line of a script says.
+
 use smbd_base::EndId;
 
 /// What a line of a script says.

@@ -1,3 +1,5 @@
+//! Worked examples of scripts.
+
 ghost use Rattle.sim_script.specs.Worked.{IsWorked, AreNoLines};
 
 /// What some texts are as scripts, and bytes that are no line.

@@ -1,3 +1,5 @@
+//! What a negotiation has settled.
+
 /// What the negotiation has settled for an end (MS-SMBD 3.1.5.6 and 3.1.5.7).
 #[derive(Clone, Copy, Debug, PartialEq, Eq)]
 pub struct Agreed {

@@ -1,3 +1,5 @@
+//! The events of a history.
+
 use crate::frame::Frame;
 use crate::message::Message;
 

@@ -1,3 +1,5 @@
+//! A frame, and the credits that it grants.
+
 ghost use Rattle.std.specs.Prelude.{◌≡◌, ◌==◌, length, IfOk};
 ghost use Rattle.smbd_base.specs.Grant.{credits_in};
 

@@ -1,3 +1,5 @@
+//! The limits of an end.
+
 ghost use Rattle.std.specs.Prelude.{◌≡◌};
 ghost use Rattle.smbd_base.specs.Limits as spec;
 

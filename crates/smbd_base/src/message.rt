@@ -1,3 +1,5 @@
+//! A message of the layer above.
+
 ghost use Rattle.std.specs.Prelude.{◌≡◌, ◌==◌, length, IfOk};
 
 use crate::no_memory::NoMemory;

@@ -1,3 +1,5 @@
+//! What an end does next.
+
 use crate::frame::Frame;
 
 /// What an end does next.

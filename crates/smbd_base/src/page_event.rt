@@ -1,3 +1,5 @@
+//! The events of a page.
+
 use crate::message::Message;
 use crate::right::Right;
 use crate::token::Token;

@@ -1,3 +1,5 @@
+//! The steering token of a page.
+
 ghost use Rattle.std.specs.Prelude.{◌≡◌, ◌↔◌, ◌<◌, ◌≤◌, IsNone, IfSome};
 ghost use Rattle.smbd_base.specs.Tokens.{number_of, token_of, IsToken};
 

@@ -1,3 +1,5 @@
+//! Worked examples of histories.
+
 ghost use Rattle.smbd_base.specs.Worked.{OpensSo, CarriesSo, RefusesSo, CreditsSo, CutsSo, GathersSo, NegotiatesSo, DeclinesSo, SettlesSo};
 
 /// Worked histories: what comes next, what is counted and what is delivered in small examples.

@@ -1,3 +1,5 @@
+//! Worked examples of one end, at the bounds of its rules.
+
 ghost use Rattle.smbd_base.specs.WorkedBounds.{SizeSo, OwesSo, LenientSo, SendsSo, FaultOrderSo};
 
 /// Worked histories of one end at the bounds of its rules, and the order of its faults.

@@ -1,3 +1,5 @@
+//! Worked examples of the lives of pages.
+
 ghost use Rattle.smbd_base.specs.WorkedLives.{TokensSo, LiveSo, StepSo, StepNotSo, PoolStepSo};
 
 /// Worked lives of pages: which steps a page and a pool allow, up to each bound, and which they do not.

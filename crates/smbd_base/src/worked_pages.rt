@@ -1,3 +1,5 @@
+//! Worked examples of lists of page events.
+
 ghost use Rattle.smbd_base.specs.WorkedPages.{FitSo, FitNotSo};
 
 /// Worked lists of page events: the lists of two passes that fit together, and small ones that do not.

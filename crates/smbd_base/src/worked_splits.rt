@@ -1,3 +1,5 @@
+//! Worked examples of pieces that split into messages.
+
 ghost use Rattle.smbd_base.specs.WorkedSplits.{SplitSo, SplitNotSo};
 
 /// Worked splits: which pieces make which messages, and which do not.

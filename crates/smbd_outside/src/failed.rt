@@ -1,3 +1,5 @@
+//! That something outside failed.
+
 use thiserror::Error;
 
 /// A source or a sink failed, and its count of faults rose.

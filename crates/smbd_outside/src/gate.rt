@@ -1,3 +1,5 @@
+//! The gate that parts pass before a shared step.
+
 /// Told of each shared step before it is made, so that a test can hold one part back. It changes nothing.
 pub trait Gate {
     /// The part stands before the step. Parts: 0 is the client end, 1 the server end, 2 to 1 + W are the client's W

@@ -1,3 +1,5 @@
+//! What a sink is.
+
 ghost use Rattle.std.specs.Prelude.{ℕ, ◌<◌, List, length, Option};
 ghost use Rattle.std.specs.Io.KnownBytes.{WriteAppends};
 ghost use Rattle.smbd_outside.specs.Causes.{HasCause};

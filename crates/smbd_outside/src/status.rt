@@ -1,3 +1,5 @@
+//! How a program ends.
+
 ghost use Rattle.std.specs.Prelude.{◌≡◌, Some};
 ghost use Rattle.smbd_outside.specs.Status.{code_of, text_of};
 

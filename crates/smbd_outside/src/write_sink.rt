@@ -1,3 +1,5 @@
+//! A sink over a writer.
+
 ghost use Rattle.std.specs.Prelude.{◌≡◌, ℕ, ◌<◌, length};
 ghost use Rattle.std.specs.Io.KnownBytes.{WriteAppends};
 ghost use Rattle.smbd_outside.specs.Causes.{HasCause, count_after};

@@ -1,3 +1,5 @@
+//! What the calls of a table answer.
+
 use crate::hold::Hold;
 use crate::record::Record;
 use smbd_base::Token;

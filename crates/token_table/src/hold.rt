@@ -1,3 +1,5 @@
+//! A hold of a record.
+
 ghost use Rattle.std.specs.Prelude.{◌≡◌, ◌+◌, ◌<◌};
 
 use crate::record::{Listed, Record};

@@ -1,3 +1,5 @@
+//! A record: what a token stands for.
+
 use smbd_base::{Right, Token};
 
 /// What a token stands for: `length` bytes from the place `base` of the pool on, and what a peer may do with them.

@@ -1,3 +1,5 @@
+//! The table of records.
+
 ghost use Rattle.std.specs.Prelude.{◌≡◌, ◌≢◌, ◌+◌, ◌-◌, ◌<◌, ◌≤◌, length, replicate, IfOk, None};
 ghost use Rattle.token_table.specs.Records.{IsInPage};
 ghost use Rattle.token_table.specs.Tables.{listed_at, listed_under, issue_answer, claim_answer, withdraw_answer, IfHeld, OnUnheld, IfWithdrawn, OnKept, with_record, holds_on, IsHeld, TakesHold, TakesOut};

@@ -1,3 +1,5 @@
+//! The header of a message that is written.
+
 /// What stands before the payload of a data transfer message (MS-SMBD 2.2.3).
 #[derive(Clone, Copy, Debug, PartialEq, Eq)]
 pub struct Header {

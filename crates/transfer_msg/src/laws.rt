@@ -1,3 +1,5 @@
+//! That reading and writing fit together.
+
 ghost use Rattle.std.specs.Prelude.{◌≡◌, ◌++◌, List, ℕ, length};
 ghost use Rattle.smbd_base.specs.DataFrame.{data_frame_of};
 ghost use Rattle.transfer_msg.specs.declared.header.Header.{Header};

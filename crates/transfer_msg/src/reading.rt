@@ -1,3 +1,5 @@
+//! How a data transfer message is read.
+
 ghost use Rattle.std.specs.Prelude.{◌≡◌};
 ghost use Rattle.smbd_base.specs.DataFrame.{data_frame_of, with_payload};
 ghost use Rattle.transfer_msg.specs.Shown.{shown_frame, shown_result};

@@ -1,3 +1,5 @@
+//! What a message that was read says.
+
 /// What a data transfer message says (MS-SMBD 2.2.3). The payload is a part of the bytes that were read.
 #[derive(Clone, Copy, Debug, PartialEq, Eq)]
 pub struct DataView<'a> {

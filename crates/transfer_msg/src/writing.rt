@@ -1,3 +1,5 @@
+//! How the header of a message is written.
+
 ghost use Rattle.std.specs.Prelude.{◌≡◌, ◌+◌, ◌≤◌, ◌++◌, take, drop};
 ghost use Rattle.std.specs.Int.{w16, w32, to_le_bytes};
 ghost use Rattle.transfer_msg.specs.Written.{header_length, header_text};

@@ -1,3 +1,5 @@
+//! Worked examples of runs on a link that is cut.
+
 ghost use Rattle.world_core.specs.Worked.{RunSo};
 
 /// Worked runs: what choices do on a link that is cut, and where there is nothing to do.
