@@ -13,7 +13,7 @@ use Rattle.smbd_base.specs.Counts.{peer_of, frames_sent}
 use Rattle.smbd_base.specs.Joint.{taken_frames, emitted_frames, taken_before_sending, sent_before_taking, IsAfter, AreJoint}
 use Rattle.joint_laws.specs.OrderOfTime.{Happened, with_event, events_at, WasSent, TakesStandAfterEmits, IsOneOrder, HaveOneOrder, AreInTime}
 use Rattle.joint_laws.proofs.Accounts.{peer-peer, taken_sent}
-use Rattle.joint_laws.proofs.Counting.{sent_is}
+use Rattle.smbd_base.proofs.Counting.{sent_is}
 use Rattle.joint_laws.proofs.Growing.{IsPrefix-longer}
 use Rattle.joint_laws.proofs.Ordering.{after_take, after_emit}
 
