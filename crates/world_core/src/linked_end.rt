@@ -74,15 +74,12 @@ impl LinkedEnd {
         ensures added { OnOk result (self.new ≡ own_after self.old (submission self.old message.now)) }
         ensures same { OnErr result (self.new ≡ self.old) }
     {
-        match self.end.submit(message.clone()?) {
-            Ok(()) => Ok(Step::Did),
-            Err(
-                SubmitRefused {
-                    fault: SubmitFault::NoMemory,
-                    ..
-                },
-            ) => Err(NoMemory),
-            Err(_) => Ok(Step::Nothing),
+        let Err(refused) = self.end.submit(message.clone()?) else {
+            return Ok(Step::Did);
+        };
+        match fault_of(refused) {
+            SubmitFault::NoMemory => Err(NoMemory),
+            _ => Ok(Step::Nothing),
         }
     }
 
@@ -183,6 +180,13 @@ fn take(end: &mut End, delivered: &mut Vec<Message>, frame: Frame) -> Result<(),
         ) => Err(NoMemory),
         Err(_) => unreachable!(),
     }
+}
+
+/// Why a submission was refused. The message is let go.
+fn fault_of(refused: SubmitRefused) -> SubmitFault
+    ensures { result ≡ refused.fault }
+{
+    refused.fault
 }
 
 /// Does what a choice says at one end.
