@@ -58,7 +58,7 @@ pub fn put_groups(
             EndId::Client,
             end_request(alloc, id_at(length) + 1, length)?,
         )?;
-        call(alloc, world)?;
+        let_go(call(alloc, world)?);
     }
     Ok(came)
 }
@@ -120,6 +120,9 @@ fn answer_writes(alloc: Global, world: &mut World, count: usize) -> Result<Vec<M
     }
     Ok(came)
 }
+
+/// Lets a message go, apart from what comes after.
+fn let_go(_message: Message) {}
 
 /// Sends the oldest request that waits, to which the server replies by what it says. Gives the request as it came.
 fn call(alloc: Global, world: &mut World) -> Result<Message, NoMemory>

@@ -5,7 +5,7 @@ use Rattle.world_core.specs.Run.{past_of, limits_of}
 use Rattle.smbd_cli.proofs.Stepping.{HasGone, gone}
 use Rattle.smbd_cli.proofs.exchange.carry.Goals as goal
 
-went : (c : goal.Joined-this-6) → HasGone c.args.from c.args.to c.args.world.now c.step-3.new.self c.in_ok-message.message
+went : (c : goal.Joined-this-11) → HasGone c.args.from c.args.to c.args.world.now c.step-3.new.self c.in_ok-message.message
 went c =
     let all = messages_delivered c.args.to (limits_of c.args.to c.step-2.new.self) (past_of c.args.to c.step-2.new.self) in
     gone c.args.from c.args.to c.args.world.now c.step.new.self c.step-2.new.self c.step-3.new.self c.in_ok-message.message
