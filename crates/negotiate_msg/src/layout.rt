@@ -6,6 +6,12 @@ pub const VERSION: u16 = 0x0100;
 /// STATUS_SUCCESS (MS-SMBD 2.2.2).
 pub const SUCCESS: u32 = 0;
 
+/// The bytes of a request (MS-SMBD 2.2.1).
+pub const REQUEST_SIZE: usize = 20;
+
+/// The bytes of a response (MS-SMBD 2.2.2).
+pub const RESPONSE_SIZE: usize = 32;
+
 /// The fields of a request (MS-SMBD 2.2.1). Reserved stands at 4.
 pub mod in_request {
     pub const MIN_VERSION: usize = 0;
@@ -19,9 +25,6 @@ pub mod in_request {
     pub const MAX_RECEIVE_SIZE: usize = 12;
 
     pub const MAX_FRAGMENTED_SIZE: usize = 16;
-
-    /// Where the fields end, and with them the message.
-    pub const FIELDS_END: usize = 20;
 }
 
 /// The fields of a response (MS-SMBD 2.2.2). Reserved stands at 6.
@@ -45,7 +48,4 @@ pub mod in_response {
     pub const MAX_RECEIVE_SIZE: usize = 24;
 
     pub const MAX_FRAGMENTED_SIZE: usize = 28;
-
-    /// Where the fields end, and with them the message.
-    pub const FIELDS_END: usize = 32;
 }

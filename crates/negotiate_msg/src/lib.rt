@@ -13,6 +13,7 @@ mod response;
 mod writing;
 
 pub use answering::{answer, refusal, settle};
+pub use layout::{REQUEST_SIZE, RESPONSE_SIZE};
 pub use reading::{read_request, read_response};
 pub use request::NegotiateRequest;
 pub use response::NegotiateResponse;

@@ -4,16 +4,12 @@ ghost use Rattle.std.specs.Prelude.{◌≡◌, IfOk};
 ghost use Rattle.negotiate_msg.specs.Shown.{shown_request, shown_response, shown_request_result, shown_response_result};
 ghost use Rattle.smbd_base.specs.NegotiateMessages.{IsLawfulRequest, IsLawfulResponse, fault_in_request, fault_in_response, read_request_of, read_response_of, request_fields, response_fields};
 
-use crate::layout::{SUCCESS, VERSION, in_request, in_response};
+use crate::layout::{REQUEST_SIZE, RESPONSE_SIZE, SUCCESS, VERSION, in_request, in_response};
 use crate::request::NegotiateRequest;
 use crate::response::NegotiateResponse;
-use smbd_base::{EndLimits, NegotiateFault, u16_at, u32_at};
-
-/// The least MaxReceiveSize of a peer, in bytes (this project's own).
-const LEAST_RECEIVE_SIZE: u32 = 128;
-
-/// The least MaxFragmentedSize of a peer, in bytes (this project's own).
-const LEAST_FRAGMENTED_SIZE: u32 = 131_072;
+use smbd_base::{
+    EndLimits, LEAST_FRAGMENTED_SIZE, LEAST_FRAME_SIZE, NegotiateFault, u16_at, u32_at,
+};
 
 /// What the bytes say as a negotiate request (MS-SMBD 2.2.1; the bounds are this project's own), or the first fault that
 /// applies: `Short` for fewer than 20 bytes, `Version` where MinVersion is above 0x0100 or MaxVersion below it, `Credits`
@@ -26,7 +22,7 @@ pub fn read_request(bytes: &[u8]) -> Result<NegotiateRequest, NegotiateFault>
     ensures value { shown_request_result result ≡ read_request_of bytes.now }
     ensures lawful { IfOk result (λ request. IsLawfulRequest (shown_request request)) }
 {
-    if bytes.len() < in_request::FIELDS_END {
+    if bytes.len() < REQUEST_SIZE {
         return Err(NegotiateFault::Short);
     }
     let request = request_in(bytes);
@@ -48,7 +44,7 @@ pub fn read_response(bytes: &[u8], own: &EndLimits) -> Result<NegotiateResponse,
     ensures value { shown_response_result result ≡ read_response_of own.now bytes.now }
     ensures lawful { IfOk result (λ response. IsLawfulResponse own.now (shown_response response)) }
 {
-    if bytes.len() < in_response::FIELDS_END {
+    if bytes.len() < RESPONSE_SIZE {
         return Err(NegotiateFault::Short);
     }
     let response = response_in(bytes);
@@ -83,7 +79,7 @@ fn request_fault(request: &NegotiateRequest) -> Option<NegotiateFault>
     if request.credits_requested == 0 {
         return Some(NegotiateFault::Credits);
     }
-    if request.max_receive_size < LEAST_RECEIVE_SIZE {
+    if request.max_receive_size < LEAST_FRAME_SIZE {
         return Some(NegotiateFault::ReceiveSize);
     }
     if request.max_fragmented_size < LEAST_FRAGMENTED_SIZE {
@@ -130,7 +126,7 @@ fn response_fault(response: &NegotiateResponse, own: &EndLimits) -> Option<Negot
     if own.receive_size() < response.preferred_send_size {
         return Some(NegotiateFault::SendSize);
     }
-    if response.max_receive_size < LEAST_RECEIVE_SIZE {
+    if response.max_receive_size < LEAST_FRAME_SIZE {
         return Some(NegotiateFault::ReceiveSize);
     }
     if response.max_fragmented_size < LEAST_FRAGMENTED_SIZE {

@@ -1,6 +1,7 @@
 -- What a pool answers, by the state of the page that is asked for. The refusals stand in the order in which they are
 -- looked for.
 use Rattle.std.specs.Prelude.{ℕ, ◌+◌, ◌==◌, nat_le, Option, Some, None, if◌then◌else◌}
+use Rattle.smbd_base.specs.declared.token.TheConstants.{LAST_GENERATION}
 use Rattle.smbd_base.specs.declared.right.Right.{Right}
 use Rattle.smbd_base.specs.declared.right.Right.TheVariants as right
 use Rattle.smbd_base.specs.Tokens.{PageToken}
@@ -25,7 +26,7 @@ live_token page s = of_live (token_of_page page s.generation) s.loaded
 abbrev pub loading : ℕ → ℕ → Option LoadedPage → Load
 loading page generation (Some loaded) = Live (token_of_page page generation)
 loading page generation None =
-    if generation == 16777215 then Spent else Loaded (token_of_page page (generation + 1))
+    if generation == LAST_GENERATION then Spent else Loaded (token_of_page page (generation + 1))
 
 -- a load is refused where the page is loaded, or has had the last generation
 abbrev pub load_answer : ℕ → PageState → Load

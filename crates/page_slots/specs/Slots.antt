@@ -1,5 +1,6 @@
 -- What a slot of the pool says of its page.
 use Rattle.std.specs.Prelude.{◌≡◌, ℕ, ◌≤◌, Option, Some, None, List, length, IfSome}
+use Rattle.smbd_base.specs.declared.token.TheConstants.{PAGE_SIZE, LAST_GENERATION}
 use Rattle.smbd_base.specs.declared.right.Right.{Right}
 use Rattle.smbd_base.specs.Pages.{LoadedPage}
 
@@ -9,6 +10,6 @@ loaded_page None content places = None
 loaded_page (Some right) content places = Some (record { right = right; content = content; places = places })
 
 pub record IsSlot (right : Option Right) (bytes : List ℕ) (generation : ℕ) : Type 0 where
-  pub size : length bytes ≡ 4096
-  pub most : generation ≤ 16777215
+  pub size : length bytes ≡ PAGE_SIZE
+  pub most : generation ≤ LAST_GENERATION
   pub least : IfSome right (λ r. 1 ≤ generation)

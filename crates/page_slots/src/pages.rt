@@ -2,6 +2,7 @@
 
 ghost use Rattle.std.specs.Prelude.{◌≡◌, ◌≢◌, ◌+◌, ◌-◌, ◌<◌, ◌≤◌, length, replicate, IfOk};
 ghost use Rattle.std.specs.List.{range_with_len};
+ghost use Rattle.smbd_base.specs.declared.token.TheConstants.{PAGE_SIZE, LAST_GENERATION};
 ghost use Rattle.smbd_base.specs.declared.page_event.PageEvent.TheVariants as events;
 ghost use Rattle.smbd_base.specs.Pages.{IsPoolStep, opened_page, page_at};
 ghost use Rattle.page_slots.specs.Answers.{load_answer, fetch_answer, place_answer, unload_answer, places_had, IfLoaded, OnRefused};
@@ -39,7 +40,7 @@ impl Pages {
         requires least_count { 16 ≤ count }
         requires most_count { count ≤ 255 }
         requires least_generation { 1 ≤ first_generation }
-        requires most_generation { first_generation ≤ 16777215 }
+        requires most_generation { first_generation ≤ LAST_GENERATION }
         requires least_seats { 1 ≤ seats }
         requires most_seats { seats ≤ 32 }
         ensures pages { IfOk result (λ opened. opened.0 ≡ replicate count (opened_page first_generation)) }
@@ -57,7 +58,7 @@ impl Pages {
     pub fn load(&mut self, pass: &mut PagePass, page: u8, right: Right, bytes: &[u8]) -> Load
         requires among { page < length self.old }
         requires some { 1 ≤ length bytes.now }
-        requires fits { length bytes.now ≤ 4096 }
+        requires fits { length bytes.now ≤ PAGE_SIZE }
         ensures answer { result ≡ load_answer page (page_at page self.old) }
         ensures loaded { IfLoaded result (λ token. IsPoolStep (events.Load token right bytes.now) self.old self.new) }
         ensures refused { OnRefused result (self.new ≡ self.old) }
@@ -78,7 +79,7 @@ impl Pages {
     pub fn fetch(&mut self, pass: &mut PagePass, token: Token, at: u32, out: &mut [u8]) -> Access
         requires among { token.page < length self.old }
         requires some { 1 ≤ length out.old }
-        requires within { at + length out.old ≤ 4096 }
+        requires within { at + length out.old ≤ PAGE_SIZE }
         ensures answer { result ≡ fetch_answer token (page_at token.page self.old) }
         ensures done { result ≡ Access.Done → IsPoolStep (events.Fetch token at out.new) self.old self.new }
         ensures refused { result ≢ Access.Done → out.new ≡ out.old }
@@ -97,7 +98,7 @@ impl Pages {
     pub fn place(&mut self, pass: &mut PagePass, token: Token, at: u32, bytes: &[u8]) -> Access
         requires among { token.page < length self.old }
         requires some { 1 ≤ length bytes.now }
-        requires within { at + length bytes.now ≤ 4096 }
+        requires within { at + length bytes.now ≤ PAGE_SIZE }
         ensures answer { result ≡ place_answer token (page_at token.page self.old) }
         ensures done { result ≡ Access.Done
             → IsPoolStep (events.Place token (places_had (page_at token.page self.old).loaded) at bytes.now) self.old self.new }
@@ -116,7 +117,7 @@ impl Pages {
     /// Hands out the 4,096 bytes of the token's page, and ends its load.
     pub fn unload(&mut self, pass: &mut PagePass, token: Token, out: &mut [u8]) -> Access
         requires among { token.page < length self.old }
-        requires size { length out.old ≡ 4096 }
+        requires size { length out.old ≡ PAGE_SIZE }
         ensures answer { result ≡ unload_answer token (page_at token.page self.old) }
         ensures done { result ≡ Access.Done → IsPoolStep (events.Unload token out.new) self.old self.new }
         ensures refused { result ≢ Access.Done → self.new ≡ self.old }

@@ -1,21 +1,16 @@
 //! One page of a pool.
 
 ghost use Rattle.std.specs.Prelude.{◌≡◌, ◌+◌, ◌-◌, ◌==◌, ◌<◌, ◌≤◌, ◌++◌, length, replicate, IfOk};
+ghost use Rattle.smbd_base.specs.declared.token.TheConstants.{PAGE_SIZE, LAST_GENERATION};
 ghost use Rattle.smbd_base.specs.declared.page_event.PageEvent.TheVariants.{Load, Fetch, Place, Unload};
 ghost use Rattle.smbd_base.specs.Pages.{IsPageStep, page_after};
 ghost use Rattle.page_slots.specs.Answers as spec;
 ghost use Rattle.page_slots.specs.Answers.{token_of_page, live_token, fetch_answer, place_answer, unload_answer, places_had};
 
 use crate::answers::Access;
-use smbd_base::{NoMemory, Right, Token};
+use smbd_base::{LAST_GENERATION, NoMemory, PAGE_SIZE, Right, Token};
 use std::alloc::Global;
 use std::marker::Model;
-
-/// The bytes of a page.
-pub const PAGE_SIZE: usize = 4096;
-
-/// The last generation that a token can have.
-const LAST_GENERATION: u32 = 16_777_215;
 
 /// The places that a token can have.
 const MOST_PLACES: u16 = 65_535;
@@ -53,11 +48,11 @@ fn fill_up(content: &mut [u8], bytes: &[u8])
 impl Slot {
     /// A page that isn't loaded, with this as its last generation.
     pub fn open(alloc: Global, generation: u32) -> Result<Slot, NoMemory>
-        requires { generation ≤ 16777215 }
+        requires { generation ≤ LAST_GENERATION }
         ensures { IfOk result (λ s. s ≡ record { generation = generation; loaded = None }) }
     {
         Ok(Slot {
-            content: vec![in alloc; 0; PAGE_SIZE]?,
+            content: vec![in alloc; 0; PAGE_SIZE as usize]?,
             generation,
             right: None,
             places: 0,
@@ -76,8 +71,8 @@ impl Slot {
 
     /// Whether the page has had its last generation.
     pub fn is_spent(&self) -> bool
-        ensures value { result ≡ (self.now.generation == 16777215) }
-        ensures bound { self.now.generation ≤ 16777215 }
+        ensures value { result ≡ (self.now.generation == LAST_GENERATION) }
+        ensures bound { self.now.generation ≤ LAST_GENERATION }
     {
         self.generation == LAST_GENERATION
     }
@@ -86,8 +81,8 @@ impl Slot {
     #[tactic(auto, unfolding(smbd_base::specs::Pages::whole_page))]
     pub fn load(&mut self, page: u8, right: Right, bytes: &[u8]) -> Token
         requires unloaded { self.old.loaded ≡ None }
-        requires unspent { self.old.generation < 16777215 }
-        requires fits { length bytes.now ≤ 4096 }
+        requires unspent { self.old.generation < LAST_GENERATION }
+        requires fits { length bytes.now ≤ PAGE_SIZE }
         ensures token { result ≡ token_of_page page (self.old.generation + 1) }
         ensures step { IsPageStep (Load result right bytes.now) self.old }
         ensures after { self.new ≡ page_after (Load result right bytes.now) self.old }
@@ -146,7 +141,7 @@ impl Slot {
     /// Copies bytes out of the page, from the place `at` on.
     pub fn fetch(&self, token: Token, at: u32, out: &mut [u8])
         requires allowed { fetch_answer token self.now ≡ Access.Done }
-        requires within { at + length out.old ≤ 4096 }
+        requires within { at + length out.old ≤ PAGE_SIZE }
         ensures { IsPageStep (Fetch token at out.new) self.now }
     {
         let from = at as usize;
@@ -156,7 +151,7 @@ impl Slot {
     /// Copies bytes into the page, from the place `at` on.
     pub fn place(&mut self, token: Token, at: u32, bytes: &[u8])
         requires allowed { place_answer token self.old ≡ Access.Done }
-        requires within { at + length bytes.now ≤ 4096 }
+        requires within { at + length bytes.now ≤ PAGE_SIZE }
         ensures step { IsPageStep (Place token (places_had self.old.loaded) at bytes.now) self.old }
         ensures after { self.new ≡ page_after (Place token (places_had self.old.loaded) at bytes.now) self.old }
     {
@@ -168,7 +163,7 @@ impl Slot {
     /// Hands out the page's bytes, and ends its load.
     pub fn unload(&mut self, token: Token, out: &mut [u8])
         requires allowed { unload_answer token self.old ≡ Access.Done }
-        requires size { length out.old ≡ 4096 }
+        requires size { length out.old ≡ PAGE_SIZE }
         ensures step { IsPageStep (Unload token out.new) self.old }
         ensures after { self.new ≡ page_after (Unload token out.new) self.old }
     {

@@ -2,7 +2,7 @@
 use Rattle.std.specs.Prelude.{◌≡◌, ℕ, ◌+◌, ◌*◌, ◌<◌, Option, None, List, length, slice_set}
 use Rattle.smbd_base.specs.declared.right.Right.{Right}
 use Rattle.smbd_base.specs.declared.page_event.PageEvent.TheVariants as events
-use Rattle.smbd_base.specs.Tokens.{PageToken, number_of}
+use Rattle.smbd_base.specs.Tokens.{PageToken, number_of, start_of_page}
 use Rattle.smbd_base.specs.Pages.{PageState, page_at, IsPoolStep}
 use Rattle.buffer_descriptor.specs.declared.descriptor.Descriptor.{Descriptor}
 use Rattle.page_slots.specs.declared.answers.Load.{Load}
@@ -33,11 +33,11 @@ IsAmong page s = page < length s.pages
 
 -- the record of so many bytes from the start of the token's page on
 abbrev pub record_of : PageToken → Right → ℕ → Record
-record_of token right len = record { token = token; right = right; base = 4096 * token.page; length = len }
+record_of token right len = record { token = token; right = right; base = start_of_page token.page; length = len }
 
 -- the descriptor of so many bytes from the start of the token's page on
 abbrev pub descriptor_of_page : PageToken → ℕ → Descriptor
-descriptor_of_page token len = record { offset = 4096 * token.page; token = number_of token; length = len }
+descriptor_of_page token len = record { offset = start_of_page token.page; token = number_of token; length = len }
 
 -- the token of a page's next load
 abbrev pub next_token : ℕ → List PageState → PageToken

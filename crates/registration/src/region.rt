@@ -2,6 +2,7 @@
 
 ghost use Rattle.std.specs.Prelude.{◌≡◌, ◌≢◌, ◌+◌, ◌-◌, ◌≤◌, length, replicate, IfOk, None};
 ghost use Rattle.std.specs.List.{range_with_len};
+ghost use Rattle.smbd_base.specs.declared.token.TheConstants.{PAGE_SIZE, LAST_GENERATION};
 ghost use Rattle.smbd_base.specs.declared.page_event.PageEvent.TheVariants as events;
 ghost use Rattle.smbd_base.specs.Pages.{IsPoolStep, opened_page, page_at};
 ghost use Rattle.page_slots.specs.Answers.{fetch_answer, place_answer, unload_answer, places_had};
@@ -37,14 +38,14 @@ impl Model for Region {
 
 /// The record of the first bytes of a token's page.
 fn record_of_page(token: Token, right: Right, length: u32) -> Record
-    requires { length ≤ 4096 }
+    requires { length ≤ PAGE_SIZE }
     ensures value { result ≡ record_of token right length }
     ensures fits { IsInPage result }
 {
     Record {
         token,
         right,
-        base: 4096 * u64::from(token.page()),
+        base: token.start(),
         length,
     }
 }
@@ -60,7 +61,7 @@ impl Region {
         requires least_count { 16 ≤ count }
         requires most_count { count ≤ 255 }
         requires least_generation { 1 ≤ first_generation }
-        requires most_generation { first_generation ≤ 16777215 }
+        requires most_generation { first_generation ≤ LAST_GENERATION }
         requires least_seats { 1 ≤ seats }
         requires most_seats { seats ≤ 32 }
         ensures pages { IfOk result (λ opened. opened.0.pages ≡ replicate count (opened_page first_generation)) }
@@ -82,7 +83,7 @@ impl Region {
     ) -> Register
         requires among { IsAmong page self.old }
         requires some { 1 ≤ length bytes.now }
-        requires fits { length bytes.now ≤ 4096 }
+        requires fits { length bytes.now ≤ PAGE_SIZE }
         ensures answer { result ≡ register_answer page (length bytes.now) self.old }
         ensures leaves { LeavesRegistered page right bytes.now self.old self.new result }
         ensures count { length self.new.pages ≡ length self.old.pages }
@@ -97,7 +98,7 @@ impl Region {
         let length = bytes.len() as u32;
         match self.table.issue(record_of_page(token, right, length)) {
             Issue::Done => Register::Registered(Descriptor {
-                offset: 4096 * u64::from(page),
+                offset: token.start(),
                 token: token.number(),
                 length,
             }),
@@ -109,7 +110,7 @@ impl Region {
     pub fn retry_issue(&mut self, token: Token, right: Right, length: u32) -> Issue
         requires among { IsAmong token.page self.old }
         requires some { 1 ≤ length }
-        requires fits { length ≤ 4096 }
+        requires fits { length ≤ PAGE_SIZE }
         ensures answer { result ≡ issue_answer (listed_at token.page self.old.table) }
         ensures done { result ≡ Issue.Done → self.new.table ≡ with_record self.old.table (record_of token right length) 0 }
         ensures refused { result ≢ Issue.Done → self.new ≡ self.old }
@@ -120,7 +121,7 @@ impl Region {
 
     /// Withdraws the token's record, and unloads its page into `out`.
     pub fn release(&mut self, pass: &mut PagePass, token: Token, out: &mut [u8]) -> Release
-        requires { length out.old ≡ 4096 }
+        requires { length out.old ≡ PAGE_SIZE }
         ensures answer { result ≡ release_answer token self.old }
         ensures leaves { LeavesReleased token self.old self.new out.old out.new result }
         ensures count { length self.new.pages ≡ length self.old.pages }
@@ -142,7 +143,7 @@ impl Region {
     /// Unloads a page whose record is gone.
     pub fn retry_unload(&mut self, pass: &mut PagePass, token: Token, out: &mut [u8]) -> Access
         requires among { IsAmong token.page self.old }
-        requires size { length out.old ≡ 4096 }
+        requires size { length out.old ≡ PAGE_SIZE }
         ensures answer { result ≡ unload_answer token (page_at token.page self.old.pages) }
         ensures done { result ≡ Access.Done → IsPoolStep (events.Unload token out.new) self.old.pages self.new.pages }
         ensures refused { result ≢ Access.Done → self.new ≡ self.old }
@@ -179,7 +180,7 @@ impl Region {
     pub fn fetch(&mut self, pass: &mut PagePass, token: Token, at: u32, out: &mut [u8]) -> Access
         requires among { IsAmong token.page self.old }
         requires some { 1 ≤ length out.old }
-        requires within { at + length out.old ≤ 4096 }
+        requires within { at + length out.old ≤ PAGE_SIZE }
         ensures answer { result ≡ fetch_answer token (page_at token.page self.old.pages) }
         ensures done { result ≡ Access.Done → IsPoolStep (events.Fetch token at out.new) self.old.pages self.new.pages }
         ensures refused { result ≢ Access.Done → out.new ≡ out.old }
@@ -193,7 +194,7 @@ impl Region {
     pub fn place(&mut self, pass: &mut PagePass, token: Token, at: u32, bytes: &[u8]) -> Access
         requires among { IsAmong token.page self.old }
         requires some { 1 ≤ length bytes.now }
-        requires within { at + length bytes.now ≤ 4096 }
+        requires within { at + length bytes.now ≤ PAGE_SIZE }
         ensures answer { result ≡ place_answer token (page_at token.page self.old.pages) }
         ensures done { result ≡ Access.Done
             → IsPoolStep (events.Place token (places_had (page_at token.page self.old.pages).loaded) at bytes.now)

@@ -1,5 +1,5 @@
 -- What a remote access answers (this project's own). The refusals stand in the order in which they are looked for.
-use Rattle.std.specs.Prelude.{◌+◌, nat_le, ◌&&◌, Bool, true, false, Option, Some, None, if◌then◌else◌}
+use Rattle.std.specs.Prelude.{◌≡◌, ◌+◌, nat_le, ◌&&◌, Bool, true, false, Option, Some, None, if◌then◌else◌}
 use Rattle.smbd_base.specs.declared.right.Right.{Right}
 use Rattle.smbd_base.specs.declared.right.Right.TheVariants as right
 use Rattle.smbd_base.specs.Tokens.{PageToken, token_of}
@@ -69,3 +69,7 @@ write_by (Some token) descriptor s =
 
 abbrev pub write_answer : Descriptor → RegionState → Remote
 write_answer descriptor s = write_by (token_of descriptor.token) descriptor s
+
+-- why no record of the descriptor's token is held: a read and a write are refused alike
+abbrev pub IsRefusal : Descriptor → RegionState → Remote → Type 0
+IsRefusal descriptor s remote = (remote ≡ read_answer descriptor s) × (remote ≡ write_answer descriptor s)

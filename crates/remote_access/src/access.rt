@@ -1,20 +1,21 @@
 //! Reads and writes by descriptor.
 
-ghost use Rattle.std.specs.Prelude.{◌≡◌, ◌≢◌, ◌+◌, ◌<◌, ◌≤◌, length};
+ghost use Rattle.std.specs.Prelude.{◌≡◌, ◌≢◌, ◌+◌, ◌<◌, ◌≤◌, length, IfOk, IfErr, OnErr};
+ghost use Rattle.smbd_base.specs.declared.token.TheConstants.{PAGE_SIZE};
 ghost use Rattle.smbd_base.specs.Tokens.{number_of};
 ghost use Rattle.smbd_base.specs.Pages.{page_at};
 ghost use Rattle.buffer_descriptor.specs.Descriptors.{IsSound, IsCovered};
 ghost use Rattle.page_slots.specs.Answers.{fetch_answer, place_answer};
 ghost use Rattle.token_table.specs.Records.{IsInPage};
 ghost use Rattle.registration.specs.Regions.{IsAmong};
-ghost use Rattle.remote_access.specs.Covers.{place_in_page, ReadsUnder, WritesUnder, Reads, Writes};
-ghost use Rattle.remote_access.specs.Answers.{of_access, record_refusal, unless_refused, read_answer, write_answer};
+ghost use Rattle.remote_access.specs.Covers.{place_in_page, HoldsRecord, ReadsUnder, WritesUnder, Reads, Writes};
+ghost use Rattle.remote_access.specs.Answers.{of_access, record_refusal, unless_refused, read_answer, write_answer, IsRefusal};
 
 use buffer_descriptor::{Descriptor, covers};
 use page_slots::{Access, PagePass};
 use registration::Region;
 use smbd_base::{Right, Token};
-use token_table::{Claimed, Record};
+use token_table::{Claimed, Hold, Record};
 
 /// What came of a remote access. The refusals stand in the order in which they are looked for; each leaves the pages,
 /// the records and the caller's buffer as they were.
@@ -74,9 +75,9 @@ fn place_of(entry: &Record, descriptor: &Descriptor) -> u32
     requires sound { IsSound descriptor.now }
     requires covered { IsCovered entry.now.base entry.now.length descriptor.now }
     ensures value { result ≡ place_in_page entry.now.token.page descriptor.now }
-    ensures within { result + descriptor.now.length ≤ 4096 }
+    ensures within { result + descriptor.now.length ≤ PAGE_SIZE }
 {
-    (descriptor.offset - 4096 * u64::from(entry.token.page())) as u32
+    (descriptor.offset - entry.token.start()) as u32
 }
 
 /// Fetches under a held record.
@@ -135,6 +136,26 @@ fn place_under(
     remote_of(region.place(pass, entry.token, at, bytes))
 }
 
+/// The hold of the record that a descriptor's token names, or why there is none.
+fn held(region: &mut Region, descriptor: &Descriptor) -> Result<Hold, Remote>
+    ensures held { IfOk result (λ entry. HoldsRecord descriptor.now entry region.old.table region.new.table) }
+    ensures refused { IfErr result (λ remote. IsRefusal descriptor.now region.old remote) }
+    ensures same { OnErr result (region.new ≡ region.old) }
+    ensures pages { region.new.pages ≡ region.old.pages }
+    ensures among { IfOk result (λ entry. IsAmong entry.token.page region.new) }
+{
+    let Some(token) = Token::from_number(descriptor.token) else {
+        return Err(Remote::Unknown);
+    };
+    match region.claim(token) {
+        Claimed::Held(hold) => Ok(hold),
+        Claimed::Unknown => Err(Remote::Unknown),
+        Claimed::Stale => Err(Remote::Stale),
+        Claimed::Crowded => Err(Remote::Crowded),
+        Claimed::Again { seen, found } => Err(Remote::Again { seen, found }),
+    }
+}
+
 /// Reads the descriptor's bytes out of a registered page.
 pub fn read_from(
     region: &mut Region,
@@ -150,20 +171,13 @@ pub fn read_from(
     ensures same { region.new ≡ region.old }
     ensures pass { pass.new ≡ pass.old }
 {
-    let Some(token) = Token::from_number(descriptor.token) else {
-        return Remote::Unknown;
+    let hold = match held(region, descriptor) {
+        Ok(hold) => hold,
+        Err(refused) => return refused,
     };
-    match region.claim(token) {
-        Claimed::Held(hold) => {
-            let remote = fetch_under(region, pass, hold.shown(), descriptor, out);
-            region.leave(hold);
-            remote
-        }
-        Claimed::Unknown => Remote::Unknown,
-        Claimed::Stale => Remote::Stale,
-        Claimed::Crowded => Remote::Crowded,
-        Claimed::Again { seen, found } => Remote::Again { seen, found },
-    }
+    let remote = fetch_under(region, pass, hold.shown(), descriptor, out);
+    region.leave(hold);
+    remote
 }
 
 /// Writes bytes into the descriptor's place of a registered page.
@@ -181,18 +195,11 @@ pub fn write_to(
     ensures table { region.new.table ≡ region.old.table }
     ensures pass { pass.new ≡ pass.old }
 {
-    let Some(token) = Token::from_number(descriptor.token) else {
-        return Remote::Unknown;
+    let hold = match held(region, descriptor) {
+        Ok(hold) => hold,
+        Err(refused) => return refused,
     };
-    match region.claim(token) {
-        Claimed::Held(hold) => {
-            let remote = place_under(region, pass, hold.shown(), descriptor, bytes);
-            region.leave(hold);
-            remote
-        }
-        Claimed::Unknown => Remote::Unknown,
-        Claimed::Stale => Remote::Stale,
-        Claimed::Crowded => Remote::Crowded,
-        Claimed::Again { seen, found } => Remote::Again { seen, found },
-    }
+    let remote = place_under(region, pass, hold.shown(), descriptor, bytes);
+    region.leave(hold);
+    remote
 }

@@ -17,6 +17,7 @@ use Rattle.smbd_base.specs.declared.faults.TakeFault.{TakeFault}
 use Rattle.smbd_base.specs.declared.faults.TakeFault.TheVariants as faults
 use Rattle.smbd_base.specs.declared.faults.SubmitFault.{SubmitFault}
 use Rattle.smbd_base.specs.declared.faults.SubmitFault.TheVariants as refusals
+use Rattle.smbd_base.specs.declared.limits.TheConstants.{LEAST_FRAGMENTED_SIZE}
 use Rattle.smbd_base.specs.Limits.{Limits}
 use Rattle.smbd_base.specs.NegotiateMessages.{request_fault, request_fields, request_bytes, request_of_limits, response_fault, response_fields, response_bytes, answer_to, refusing_response, agreed_with_client, agreed_with_server}
 use Rattle.smbd_base.specs.DataFrame.{DataFrame, data_frame_of, frame_bytes}
@@ -242,7 +243,7 @@ payload_size side limits past = (settled side limits past).send_size - 24
 
 -- the longest message that may be submitted: what every end gathers at least, and, once the end is agreed, what its peer gathers
 abbrev pub message_limit : EndId → Limits → List Event → ℕ
-message_limit side limits past = if is_agreed side limits past then (settled side limits past).message_max else 131072
+message_limit side limits past = if is_agreed side limits past then (settled side limits past).message_max else LEAST_FRAGMENTED_SIZE
 
 -- the pieces of the submitted messages that are still to be sent, the next one first
 abbrev pub pieces_waiting : EndId → Limits → List Event → List Piece

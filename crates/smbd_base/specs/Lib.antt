@@ -17,5 +17,6 @@ pub mod Pages
 pub mod PagesFit
 pub mod PageLaws
 pub mod WorkedPages
+pub mod WorkedLimits
 pub mod WorkedLives
 pub mod WorkedSplits

@@ -1,6 +1,8 @@
--- The limits of an end, and their ranges (this project's own).
+-- The limits of an end, and their ranges (this project's own). The bounds are constants of limits.rt; worked examples
+-- (`worked_limits`) hold each of them to its number.
 use Rattle.std.specs.Prelude.{ℕ, ◌≤◌, nat_lt, Bool, ◌||◌, Result, Ok, Err, if◌then◌else◌}
 use Rattle.smbd_base.specs.declared.limits.LimitFault.{LimitFault}
+use Rattle.smbd_base.specs.declared.limits.TheConstants.{LEAST_CREDITS, MOST_CREDITS, LEAST_FRAME_SIZE, MOST_FRAME_SIZE, LEAST_FRAGMENTED_SIZE, MOST_FRAGMENTED_SIZE, LEAST_PAGES, MOST_PAGES}
 use Rattle.smbd_base.specs.declared.limits.LimitFault.TheVariants.{Credits, SendSize, ReceiveSize, FragmentedSize, Pages}
 
 -- receive credits, sizes in bytes, and the pages of a pool
@@ -17,11 +19,11 @@ IsWithin least most n = (least ≤ n) × (n ≤ most)
 
 -- each limit lies in its range
 pub record IsLawful (limits : Limits) : Type 0 where
-  pub credits : IsWithin 3 255 limits.credits
-  pub send_size : IsWithin 128 8192 limits.send_size
-  pub receive_size : IsWithin 128 8192 limits.receive_size
-  pub fragmented_size : IsWithin 131072 1048576 limits.fragmented_size
-  pub pages : IsWithin 16 255 limits.pages
+  pub credits : IsWithin LEAST_CREDITS MOST_CREDITS limits.credits
+  pub send_size : IsWithin LEAST_FRAME_SIZE MOST_FRAME_SIZE limits.send_size
+  pub receive_size : IsWithin LEAST_FRAME_SIZE MOST_FRAME_SIZE limits.receive_size
+  pub fragmented_size : IsWithin LEAST_FRAGMENTED_SIZE MOST_FRAGMENTED_SIZE limits.fragmented_size
+  pub pages : IsWithin LEAST_PAGES MOST_PAGES limits.pages
 
 -- the number lies outside
 unfoldable pub is_outside : ℕ → ℕ → ℕ → Bool
@@ -30,11 +32,11 @@ is_outside least most n = nat_lt n least || nat_lt most n
 -- the limits, or the first one that lies out of its range
 abbrev pub checked : Limits → Result Limits LimitFault
 checked limits =
-    if is_outside 3 255 limits.credits then Err Credits
-    else if is_outside 128 8192 limits.send_size then Err SendSize
-    else if is_outside 128 8192 limits.receive_size then Err ReceiveSize
-    else if is_outside 131072 1048576 limits.fragmented_size then Err FragmentedSize
-    else if is_outside 16 255 limits.pages then Err Pages
+    if is_outside LEAST_CREDITS MOST_CREDITS limits.credits then Err Credits
+    else if is_outside LEAST_FRAME_SIZE MOST_FRAME_SIZE limits.send_size then Err SendSize
+    else if is_outside LEAST_FRAME_SIZE MOST_FRAME_SIZE limits.receive_size then Err ReceiveSize
+    else if is_outside LEAST_FRAGMENTED_SIZE MOST_FRAGMENTED_SIZE limits.fragmented_size then Err FragmentedSize
+    else if is_outside LEAST_PAGES MOST_PAGES limits.pages then Err Pages
     else Ok limits
 
 -- the defaults

@@ -7,6 +7,7 @@ use Rattle.smbd_base.specs.declared.agreed.Agreed.{Agreed}
 use Rattle.smbd_base.specs.declared.faults.NegotiateFault.{NegotiateFault}
 use Rattle.smbd_base.specs.declared.faults.NegotiateFault.TheVariants.{Short, Version, Credits, Granted, SendSize, ReceiveSize, FragmentedSize, Status}
 use Rattle.smbd_base.specs.Fields.{u16_at, u32_at}
+use Rattle.smbd_base.specs.declared.limits.TheConstants.{LEAST_FRAME_SIZE, MOST_FRAME_SIZE, LEAST_FRAGMENTED_SIZE}
 use Rattle.smbd_base.specs.Limits.{Limits, IsWithin}
 
 -- the fields, or the fault that was found
@@ -41,8 +42,8 @@ unfoldable pub fault_in_request : Request → Option NegotiateFault
 fault_in_request request =
     if nat_lt 256 request.min_version || nat_lt request.max_version 256 then Some Version
     else if request.credits_requested == 0 then Some Credits
-    else if nat_lt request.max_receive_size 128 then Some ReceiveSize
-    else if nat_lt request.max_fragmented_size 131072 then Some FragmentedSize
+    else if nat_lt request.max_receive_size LEAST_FRAME_SIZE then Some ReceiveSize
+    else if nat_lt request.max_fragmented_size LEAST_FRAGMENTED_SIZE then Some FragmentedSize
     else None
 
 -- why bytes are no request, if they are none; bytes after the twentieth may hold anything
@@ -58,8 +59,8 @@ pub record IsLawfulRequest (request : Request) : Type 0 where
   pub min_version : request.min_version ≤ 256
   pub max_version : 256 ≤ request.max_version
   pub credits_requested : 1 ≤ request.credits_requested
-  pub max_receive_size : 128 ≤ request.max_receive_size
-  pub max_fragmented_size : 131072 ≤ request.max_fragmented_size
+  pub max_receive_size : LEAST_FRAME_SIZE ≤ request.max_receive_size
+  pub max_fragmented_size : LEAST_FRAGMENTED_SIZE ≤ request.max_fragmented_size
 
 -- each number fits its field
 pub record RequestFits (request : Request) : Type 0 where
@@ -129,8 +130,8 @@ fault_in_response limits response =
     else if response.credits_requested == 0 then Some Credits
     else if response.credits_granted == 0 || nat_lt limits.credits response.credits_granted then Some Granted
     else if nat_lt limits.receive_size response.preferred_send_size then Some SendSize
-    else if nat_lt response.max_receive_size 128 then Some ReceiveSize
-    else if nat_lt response.max_fragmented_size 131072 then Some FragmentedSize
+    else if nat_lt response.max_receive_size LEAST_FRAME_SIZE then Some ReceiveSize
+    else if nat_lt response.max_fragmented_size LEAST_FRAGMENTED_SIZE then Some FragmentedSize
     else None
 
 -- why bytes are no response to a client with these limits, if they are none; bytes after the thirty-second may hold
@@ -150,8 +151,8 @@ pub record IsLawfulResponse (limits : Limits) (response : Response) : Type 0 whe
   pub credits_requested : 1 ≤ response.credits_requested
   pub credits_granted : IsWithin 1 limits.credits response.credits_granted
   pub preferred_send_size : response.preferred_send_size ≤ limits.receive_size
-  pub max_receive_size : 128 ≤ response.max_receive_size
-  pub max_fragmented_size : 131072 ≤ response.max_fragmented_size
+  pub max_receive_size : LEAST_FRAME_SIZE ≤ response.max_receive_size
+  pub max_fragmented_size : LEAST_FRAGMENTED_SIZE ≤ response.max_fragmented_size
 
 -- each number fits its field
 pub record ResponseFits (response : Response) : Type 0 where
@@ -230,6 +231,6 @@ agreed_with_server limits response = record {
 
 -- frames have room for a payload, and the longest message is no shorter than each end has to gather
 pub record IsLawfulAgreement (agreed : Agreed) : Type 0 where
-  pub send_size : IsWithin 128 8192 agreed.send_size
-  pub message_max : 131072 ≤ agreed.message_max
+  pub send_size : IsWithin LEAST_FRAME_SIZE MOST_FRAME_SIZE agreed.send_size
+  pub message_max : LEAST_FRAGMENTED_SIZE ≤ agreed.message_max
   pub credits_requested : 1 ≤ agreed.credits_requested

@@ -5,6 +5,7 @@ use Rattle.smbd_base.specs.declared.right.Right.{Right}
 use Rattle.smbd_base.specs.declared.right.Right.TheVariants as right
 use Rattle.smbd_base.specs.declared.page_event.PageEvent.{PageEvent}
 use Rattle.smbd_base.specs.declared.page_event.PageEvent.TheVariants.{Load, Fetch, Place, Unload}
+use Rattle.smbd_base.specs.declared.token.TheConstants.{PAGE_SIZE}
 use Rattle.smbd_base.specs.Tokens.{PageToken}
 
 -- a page event, and the number of the pass that made it
@@ -36,7 +37,7 @@ page_in event = (token_in event).page
 
 -- a load fills the page up with zeros, to 4,096 bytes
 unfoldable pub whole_page : List ℕ → List ℕ
-whole_page bytes = bytes ++ replicate (4096 - length bytes) 0
+whole_page bytes = bytes ++ replicate (PAGE_SIZE - length bytes) 0
 
 -- so many bytes from a place on
 abbrev pub part_of : ℕ → ℕ → List ℕ → List ℕ
@@ -55,14 +56,14 @@ pub record IsLoadedAs (token : PageToken) (page : LoadedPage) (s : PageState) : 
 pub record IsLoad (token : PageToken) (bytes : List ℕ) (s : PageState) : Type 0 where
   pub unloaded : s.loaded ≡ None
   pub next : token.generation ≡ s.generation + 1
-  pub fits : length bytes ≤ 4096
+  pub fits : length bytes ≤ PAGE_SIZE
 
 -- a fetch is under the right to fetch, and gives that part of the page
 pub record IsFetch (token : PageToken) (at : ℕ) (bytes : List ℕ) (s : PageState) : Type 0 where
   pub page : LoadedPage
   pub loaded : IsLoadedAs token page s
   pub allowed : page.right ≡ right.Fetch
-  pub within : at + length bytes ≤ 4096
+  pub within : at + length bytes ≤ PAGE_SIZE
   pub same : bytes ≡ part_of at (length bytes) page.content
 
 -- a place is under the right to place, and the next one of its token; there are at most 65,535
@@ -72,7 +73,7 @@ pub record IsPlace (token : PageToken) (order at : ℕ) (bytes : List ℕ) (s : 
   pub allowed : page.right ≡ right.Place
   pub next : order ≡ page.places
   pub most : order ≤ 65534
-  pub within : at + length bytes ≤ 4096
+  pub within : at + length bytes ≤ PAGE_SIZE
 
 -- an unload gives the whole page
 pub record IsUnload (token : PageToken) (bytes : List ℕ) (s : PageState) : Type 0 where

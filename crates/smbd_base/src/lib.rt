@@ -25,10 +25,11 @@ mod worked;
 mod worked_bounds;
 mod worked_lives;
 mod worked_pages;
+mod worked_ranges;
 mod worked_splits;
 
 pub use agreed::Agreed;
-pub use bytes::{u16_at, u32_at};
+pub use bytes::{put_u16, put_u32, u16_at, u32_at};
 pub use end_id::EndId;
 pub use event::Event;
 pub use faults::{Broken, FrameFault, NegotiateFault, SubmitFault, TakeFault};
@@ -38,7 +39,10 @@ pub use laws::{
     frames_deliver_what_they_end, held_credits_are_earned_and_not_sent, legal_histories_balance,
     next_events_may_follow, posts_are_apart,
 };
-pub use limits::{EndLimits, LimitFault};
+pub use limits::{
+    EndLimits, LEAST_CREDITS, LEAST_FRAGMENTED_SIZE, LEAST_FRAME_SIZE, LEAST_PAGES, LimitFault,
+    MOST_CREDITS, MOST_FRAGMENTED_SIZE, MOST_FRAME_SIZE, MOST_PAGES,
+};
 pub use message::Message;
 pub use negotiation_laws::{
     agreements_are_lawful, later_bytes_change_nothing, messages_without_a_fault_are_lawful,
@@ -49,9 +53,10 @@ pub use no_memory::NoMemory;
 pub use page_event::PageEvent;
 pub use page_laws::{lists_of_passes_fit, steps_make_page_lives};
 pub use right::Right;
-pub use token::Token;
+pub use token::{LAST_GENERATION, PAGE_SIZE, Token};
 pub use worked::worked_histories;
 pub use worked_bounds::worked_boundaries;
 pub use worked_lives::worked_page_lives;
 pub use worked_pages::worked_page_lists;
+pub use worked_ranges::worked_limits;
 pub use worked_splits::worked_message_splits;

@@ -6,6 +6,31 @@ ghost use Rattle.smbd_base.specs.Limits as spec;
 use std::marker::Model;
 use thiserror::Error;
 
+/// The fewest receive credits (this project's own): with two, both ends could wait for credits at once.
+pub const LEAST_CREDITS: u32 = 3;
+
+/// The most receive credits (this project's own).
+pub const MOST_CREDITS: u32 = 255;
+
+/// The least size of the longest frame, in bytes: of PreferredSendSize and of MaxReceiveSize (MS-SMBD 2.2.1 and 2.2.2; the
+/// bound is this project's own).
+pub const LEAST_FRAME_SIZE: u32 = 128;
+
+/// The greatest size of the longest frame, in bytes (this project's own).
+pub const MOST_FRAME_SIZE: u32 = 8_192;
+
+/// The least MaxFragmentedSize, in bytes (MS-SMBD 3.1.1.1), which a peer gathers before anything is agreed.
+pub const LEAST_FRAGMENTED_SIZE: u32 = 131_072;
+
+/// The greatest MaxFragmentedSize, in bytes (this project's own).
+pub const MOST_FRAGMENTED_SIZE: u32 = 1_048_576;
+
+/// The fewest pages of a pool (this project's own): those of one request of the file layer.
+pub const LEAST_PAGES: u32 = 16;
+
+/// The most pages of a pool (this project's own).
+pub const MOST_PAGES: u32 = 255;
+
 /// Which limit lies out of its range.
 #[derive(Clone, Copy, Debug, PartialEq, Eq, Error)]
 pub enum LimitFault {
@@ -67,19 +92,19 @@ impl EndLimits {
     ) -> Result<EndLimits, LimitFault>
         ensures { result ≡ spec.checked (record { credits = credits; send_size = send_size; receive_size = receive_size; fragmented_size = fragmented_size; pages = pages }) }
     {
-        if is_outside(3, 255, u32::from(credits)) {
+        if is_outside(LEAST_CREDITS, MOST_CREDITS, u32::from(credits)) {
             return Err(LimitFault::Credits);
         }
-        if is_outside(128, 8192, send_size) {
+        if is_outside(LEAST_FRAME_SIZE, MOST_FRAME_SIZE, send_size) {
             return Err(LimitFault::SendSize);
         }
-        if is_outside(128, 8192, receive_size) {
+        if is_outside(LEAST_FRAME_SIZE, MOST_FRAME_SIZE, receive_size) {
             return Err(LimitFault::ReceiveSize);
         }
-        if is_outside(131_072, 1_048_576, fragmented_size) {
+        if is_outside(LEAST_FRAGMENTED_SIZE, MOST_FRAGMENTED_SIZE, fragmented_size) {
             return Err(LimitFault::FragmentedSize);
         }
-        if is_outside(16, 255, u32::from(pages)) {
+        if is_outside(LEAST_PAGES, MOST_PAGES, u32::from(pages)) {
             return Err(LimitFault::Pages);
         }
         Ok(EndLimits {

@@ -1,9 +1,16 @@
 //! The steering token of a page.
 
 ghost use Rattle.std.specs.Prelude.{◌≡◌, ◌↔◌, ◌<◌, ◌≤◌, IsNone, IfSome};
-ghost use Rattle.smbd_base.specs.Tokens.{number_of, token_of, IsToken};
+ghost use Rattle.smbd_base.specs.declared.token.TheConstants.{LAST_GENERATION};
+ghost use Rattle.smbd_base.specs.Tokens.{number_of, start_of_page, token_of, IsToken};
 
 use std::marker::Model;
+
+/// The bytes of a page (this project's own).
+pub const PAGE_SIZE: u32 = 4_096;
+
+/// The last generation that a token can have: the generations fit 24 bits (this project's own).
+pub const LAST_GENERATION: u32 = 16_777_215;
 
 /// The steering token of a registered page: it names the page, and which of its loads (this project's own; a token
 /// travels as the 32-bit Token of a Buffer Descriptor V1, MS-SMBD 2.2.3.1). Contracts see a record of the two numbers.
@@ -30,7 +37,7 @@ impl Token {
     /// the next. Generations lie from 1 to 16,777,215.
     pub fn new(page: u8, generation: u32) -> Token
         requires least { 1 ≤ generation }
-        requires most { generation ≤ 16777215 }
+        requires most { generation ≤ LAST_GENERATION }
         ensures { result ≡ record { page = page; generation = generation } }
     {
         Token { page, generation }
@@ -50,6 +57,14 @@ impl Token {
         ensures lawful { IsToken self }
     {
         self.generation
+    }
+
+    /// The place of the page's first byte among those of its pool, in bytes.
+    pub fn start(self) -> u64
+        ensures value { result ≡ start_of_page self.page }
+        ensures lawful { IsToken self }
+    {
+        u64::from(PAGE_SIZE) * u64::from(self.page)
     }
 
     /// The token as a descriptor carries it: the generation times 256, plus the page.

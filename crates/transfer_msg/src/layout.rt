@@ -15,5 +15,5 @@ pub const DATA_LENGTH: usize = 16;
 /// Where the fields end, and with them a message without a payload.
 pub const FIELDS_END: usize = 20;
 
-/// The first place at which a payload may begin: the first multiple of 8 after the fields.
-pub const PAYLOAD_START: u32 = 24;
+/// The bytes before a payload, which begins at the first multiple of 8 after the fields.
+pub const HEADER_SIZE: usize = 24;

@@ -5,7 +5,7 @@ ghost use Rattle.smbd_base.specs.DataFrame.{data_frame_of, with_payload};
 ghost use Rattle.transfer_msg.specs.Shown.{shown_frame, shown_result};
 
 use crate::layout::{
-    CREDITS_GRANTED, CREDITS_REQUESTED, DATA_LENGTH, DATA_OFFSET, FIELDS_END, FLAGS, PAYLOAD_START,
+    CREDITS_GRANTED, CREDITS_REQUESTED, DATA_LENGTH, DATA_OFFSET, FIELDS_END, FLAGS, HEADER_SIZE,
     REMAINING_DATA_LENGTH,
 };
 use crate::view::DataView;
@@ -28,11 +28,10 @@ pub fn read<'a>(bytes: &'a [u8]) -> Result<DataView<'a>, FrameFault>
     if length == 0 {
         return Ok(view_of(bytes, 0, &bytes[..0]));
     }
-    let offset = u32_at(bytes, DATA_OFFSET);
-    if offset < PAYLOAD_START || offset % 8 != 0 {
+    let start = u32_at(bytes, DATA_OFFSET) as usize;
+    if start < HEADER_SIZE || start % 8 != 0 {
         return Err(FrameFault::Offset);
     }
-    let start = offset as usize;
     let end = start + length as usize;
     if bytes.len() < end {
         return Err(FrameFault::Length);

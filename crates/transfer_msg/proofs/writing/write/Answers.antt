@@ -11,8 +11,8 @@ returns-then-header-eq0-clause-bytes c =
     let long : length (take 20 c.args.out.now) ≡ 20 = omega (arith, length-take 20 c.args.out.now) in
     let zeros : c.fill.new.self ≡ replicate 20 0 = c.fill.ensures.after (λ y e. e) ∙ ap (λ (n : ℕ). replicate n 0) long in
     rw (c.if-header-eq0.true, header_bytes-empty header.credits_requested header.credits_granted header.response_requested header.remaining)
-    (c.put_u16-then-header-eq0.ensures
-    ∙ ap (put_16 2 header.credits_granted) (c.put_u16.ensures ∙ ap (λ (front : List ℕ). put_16 0 header.credits_requested (front ++ drop 20 c.args.out.now)) zeros)
+    (c.put_u16-then-header-eq0.ensures.bytes
+    ∙ ap (put_16 2 header.credits_granted) (c.put_u16.ensures.bytes ∙ ap (λ (front : List ℕ). put_16 0 header.credits_requested (front ++ drop 20 c.args.out.now)) zeros)
     ∙ put_empty header.credits_requested header.credits_granted (drop 20 c.args.out.now))
 
 pub returns-clause-bytes : goal.returns-clause-bytes
@@ -22,10 +22,10 @@ returns-clause-bytes c =
     let zeros : c.fill-2.new.self ≡ replicate 24 0 = c.fill-2.ensures.after (λ y e. e) ∙ ap (λ (n : ℕ). replicate n 0) c.told-out in
     let flags : c.from.result ≡ flag_bits header.response_requested = c.from.ensures ∙ flag_number header.response_requested in
     rw (none_after, header_bytes-filled header.credits_requested header.credits_granted header.response_requested header.remaining header.length (omega arith))
-    (c.put_u32-3.ensures ∙ ap (put_32 16 header.length)
-    (c.put_u32-2.ensures ∙ ap (put_32 12 24)
-    (c.put_u32.ensures ∙ ap (put_32 8 header.remaining)
-    (c.put_u16-4.ensures ∙ ap (λ (number : ℕ). put_16 4 number c.put_u16-3.new.out) flags ∙ ap (put_16 4 (flag_bits header.response_requested))
-    (c.put_u16-3.ensures ∙ ap (put_16 2 header.credits_granted)
-    (c.put_u16-2.ensures ∙ ap (put_16 0 header.credits_requested) zeros)))))
+    (c.put_u32-3.ensures.bytes ∙ ap (put_32 16 header.length)
+    (c.put_u32-2.ensures.bytes ∙ ap (put_32 12 24)
+    (c.put_u32.ensures.bytes ∙ ap (put_32 8 header.remaining)
+    (c.put_u16-4.ensures.bytes ∙ ap (λ (number : ℕ). put_16 4 number c.put_u16-3.new.out) flags ∙ ap (put_16 4 (flag_bits header.response_requested))
+    (c.put_u16-3.ensures.bytes ∙ ap (put_16 2 header.credits_granted)
+    (c.put_u16-2.ensures.bytes ∙ ap (put_16 0 header.credits_requested) zeros)))))
     ∙ put_filled header.credits_requested header.credits_granted (flag_bits header.response_requested) header.remaining header.length)
