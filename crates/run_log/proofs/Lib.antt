@@ -1,3 +1,4 @@
 pub mod Ordering
 pub mod Tellable
 pub mod Following
+pub mod NewLineLemmas

@@ -1,3 +1,4 @@
+pub mod NewLines
 pub mod RunLines
 pub mod Runs
 pub mod Worked

@@ -20,10 +20,14 @@ side_of Server = S
 abbrev pub next_number : List Event → ℕ
 next_number past = length (taken_frames past) + 1
 
+-- the line of an event; a frame that is taken has this number
+abbrev pub event_line : EndId → ℕ → Event → List ℕ
+event_line end number event = line_text (side_of end) (logged number event)
+
 -- the line of the newest event of a past, where there is one
 abbrev pub newest_line : EndId → List Event → List (List ℕ)
 newest_line end [] = []
-newest_line end (event ∷ past) = line_text (side_of end) (logged (next_number past) event) ∷ []
+newest_line end (event ∷ past) = event_line end (next_number past) event ∷ []
 
 -- the events before the newest one
 abbrev pub before_newest : List Event → List Event

@@ -11,11 +11,20 @@ use smbd_base::{EndId, Event, NoMemory};
 use std::alloc::Global;
 use world_core::World;
 
-/// How far a history was told: how many events, and the number of the next frame that is taken.
-#[derive(Drop)]
-struct Told {
-    events: usize,
-    next: u64,
+/// How far the history of one end was told: how many events, and the number of the next frame that it takes.
+#[derive(Clone, Copy, Debug, PartialEq, Eq)]
+pub struct Told {
+    pub events: usize,
+    pub next: u64,
+}
+
+impl Told {
+    /// Nothing was told.
+    pub fn nothing() -> Told
+        ensures { result ≡ record { events = 0; next = 1 } }
+    {
+        Told { events: 0, next: 1 }
+    }
 }
 
 /// The name of an end in a log.
@@ -69,8 +78,8 @@ pub fn lines_of_run(alloc: Global, world: &World) -> Result<Vec<Line>, NoMemory>
     let client = world.history(EndId::Client);
     let server = world.history(EndId::Server);
     let order = world.order();
-    let mut client_told = Told { events: 0, next: 1 };
-    let mut server_told = Told { events: 0, next: 1 };
+    let mut client_told = Told::nothing();
+    let mut server_told = Told::nothing();
     let mut lines = Vec::with_capacity(alloc, order.len())?;
     for end in order {
         let line = match end {

@@ -3,7 +3,6 @@ pub mod Course
 pub mod Ending
 pub mod Following
 pub mod Groups
-pub mod LineLemmas
 pub mod Logging
 pub mod Negotiating
 pub mod Pieces

@@ -1,5 +1,5 @@
 -- The log of two whole histories.
-use Rattle.std.proofs.Common.{◌≡◌, ℕ, ◌+◌, List, [], ◌∷◌, ◌++◌, length, drop, reverse, refl, sym, ap, ◌∙◌, append_assoc}
+use Rattle.std.proofs.Common.{◌≡◌, ℕ, ◌+◌, List, [], ◌∷◌, ◌++◌, codes, length, drop, reverse, refl, sym, ap, ◌∙◌, append_assoc, length-append}
 use Rattle.std.proofs.lemmas.List.{append-nil, drop_at, reverse-reverse, reverse-append, length-reverse}
 use Rattle.std.proofs.lemmas.Grind.{reverse_onto}
 use Rattle.smbd_base.specs.declared.end_id.EndId.{EndId}
@@ -7,32 +7,33 @@ use Rattle.smbd_base.specs.declared.end_id.EndId.TheVariants.{Client, Server}
 use Rattle.smbd_base.specs.declared.event.Event.{Event}
 use Rattle.smbd_base.specs.declared.event.Event.TheVariants.{Post, Submit, Emit, Take, Cut}
 use mathlib.Core.List.{IsPrefix}
-use Rattle.run_log.specs.RunLines.{number_after}
-use Rattle.smbd_cli.specs.Lines.{line_of, lines_of, lines_from, take_count, number_after_all}
-use Rattle.smbd_cli.specs.LogText.{text_of, Entry, entries_text, own_line, lines_at, lines_of_ends, IsLog, BeginsLog}
-use Rattle.smbd_cli.specs.declared.telling.Told.{Told}
-use Rattle.smbd_cli.specs.Progress.{all_told}
+use Rattle.smbd_base.specs.Joint.{taken_frames}
+use Rattle.event_log.specs.Lines.{lines_text}
+use Rattle.run_log.specs.RunLines.{event_line, history_lines, next_number, number_after}
+use Rattle.run_log.specs.NewLines.{lines_from, number_after_all, told_after, told_of}
+use Rattle.smbd_cli.specs.LogText.{Entry, entries_text, own_line, lines_at, lines_of_ends, IsLog, BeginsLog}
+use Rattle.run_log.specs.declared.telling.Told.{Told}
 use Rattle.smbd_cli.specs.Settled.{GoesOn}
-use Rattle.smbd_cli.specs.Telling.{new_text, told_after}
+use Rattle.smbd_cli.specs.Telling.{new_text}
 
 -- ---- lines in both orders
 
 -- the number of the next frame, after these events in the order of time
-lines_more : (side : EndId) (number : ℕ) (lines : List (List ℕ)) (past : List Event) → number ≡ take_count past + 1 → lines ≡ lines_of side past
-    → (events : List Event) → lines_of side (reverse events ++ past) ≡ lines ++ lines_from side number events
+lines_more : (side : EndId) (number : ℕ) (lines : List (List ℕ)) (past : List Event) → number ≡ next_number past → lines ≡ history_lines side past
+    → (events : List Event) → history_lines side (reverse events ++ past) ≡ lines ++ lines_from side number events
 lines_more side number lines past n l [] = sym l ∙ sym (append-nil lines)
 lines_more side number lines past n l (e ∷ events) =
     let split : reverse (e ∷ events) ++ past ≡ reverse events ++ e ∷ past = ap (λ (p : List Event). p ++ past) (reverse_onto events e []) ∙ append_assoc (reverse events) (e ∷ []) past in
-    let line_is : lines ++ line_of side number e ∷ [] ≡ lines_of side (e ∷ past) =
-    ap (λ (ls : List (List ℕ)). ls ++ line_of side number e ∷ []) l ∙ ap (λ (k : ℕ). lines_of side past ++ line_of side k e ∷ []) n in
-    ap (lines_of side) split
-    ∙ lines_more side (number_after number e) (lines ++ line_of side number e ∷ []) (e ∷ past) (next_is number past e n) line_is events
-    ∙ append_assoc lines (line_of side number e ∷ []) (lines_from side (number_after number e) events) where
-      next_is : (number : ℕ) (past : List Event) (e : Event) → number ≡ take_count past + 1 → number_after number e ≡ take_count (e ∷ past) + 1
+    let line_is : lines ++ event_line side number e ∷ [] ≡ history_lines side (e ∷ past) =
+    ap (λ (ls : List (List ℕ)). ls ++ event_line side number e ∷ []) l ∙ ap (λ (k : ℕ). history_lines side past ++ event_line side k e ∷ []) n in
+    ap (history_lines side) split
+    ∙ lines_more side (number_after number e) (lines ++ event_line side number e ∷ []) (e ∷ past) (next_is number past e n) line_is events
+    ∙ append_assoc lines (event_line side number e ∷ []) (lines_from side (number_after number e) events) where
+      next_is : (number : ℕ) (past : List Event) (e : Event) → number ≡ next_number past → number_after number e ≡ next_number (e ∷ past)
       next_is number past (Post n) h = h
       next_is number past (Submit m) h = h
       next_is number past (Emit f) h = h
-      next_is number past (Take f) h = ap (λ (k : ℕ). k + 1) h
+      next_is number past (Take f) h = ap (λ (k : ℕ). k + 1) (h ∙ sym (length-append (taken_frames past) (f ∷ [])))
       next_is number past Cut h = h
 
 -- ---- the log
@@ -41,18 +42,19 @@ abbrev pub entries_at : EndId → List (List ℕ) → List Entry
 entries_at side [] = []
 entries_at side (line ∷ lines) = (record { side = side; line = line }) ∷ entries_at side lines
 
-text-at : (side : EndId) (lines : List (List ℕ)) (later : List Entry) → entries_text (entries_at side lines ++ later) ≡ text_of lines ++ entries_text later
+text-at : (side : EndId) (lines : List (List ℕ)) (later : List Entry) → entries_text (entries_at side lines ++ later) ≡ lines_text lines ++ entries_text later
 text-at side [] later = refl
-text-at side (line ∷ lines) later = ap (λ (t : List ℕ). line ++ t) (text-at side lines later) ∙ sym (append_assoc line (text_of lines) (entries_text later))
+text-at side (line ∷ lines) later =
+    ap (λ (t : List ℕ). (line ++ codes "\n") ++ t) (text-at side lines later) ∙ sym (append_assoc (line ++ codes "\n") (lines_text lines) (entries_text later))
 
 -- the lines of the client and then those of the server
 abbrev pub both_entries : List (List ℕ) → List (List ℕ) → List Entry
 both_entries client server = entries_at Client client ++ entries_at Server server
 
-both_text : (client server : List (List ℕ)) → entries_text (both_entries client server) ≡ text_of client ++ text_of server
+both_text : (client server : List (List ℕ)) → entries_text (both_entries client server) ≡ lines_text client ++ lines_text server
 both_text client server =
     text-at Client client (entries_at Server server)
-    ∙ ap (λ (t : List ℕ). text_of client ++ t) (ap entries_text (sym (append-nil (entries_at Server server))) ∙ text-at Server server [] ∙ append-nil (text_of server))
+    ∙ ap (λ (t : List ℕ). lines_text client ++ t) (ap entries_text (sym (append-nil (entries_at Server server))) ∙ text-at Server server [] ∙ append-nil (lines_text server))
 
 client_at : (lines : List (List ℕ)) (later : List Entry) → lines_at Client (entries_at Client lines ++ later) ≡ lines ++ lines_at Client later
 client_at [] later = refl
@@ -99,36 +101,37 @@ gained past now history more is = record {
 
 -- the lines that are told are those of the events that were gained
 lines_gained : (side : EndId) (past now history : List Event) → GoesOn past now → reverse history ≡ now
-    → lines_of side now ≡ lines_of side past ++ lines_from side (all_told past).next (drop (all_told past).events history)
+    → history_lines side now ≡ history_lines side past ++ lines_from side (told_of past).next (drop (told_of past).events history)
 lines_gained side past now history more is =
     let g = gained past now history more is in
-    ap (lines_of side) g.is ∙ lines_more side (take_count past + 1) (lines_of side past) past refl refl g.events
-    ∙ ap (λ (es : List Event). lines_of side past ++ lines_from side (take_count past + 1) es) (sym g.dropped)
+    ap (history_lines side) g.is ∙ lines_more side (next_number past) (history_lines side past) past refl refl g.events
+    ∙ ap (λ (es : List Event). history_lines side past ++ lines_from side (next_number past) es) (sym g.dropped)
 
-number_is : (past events : List Event) → number_after_all (take_count past + 1) events ≡ take_count (reverse events ++ past) + 1
+number_is : (past events : List Event) → number_after_all (next_number past) events ≡ next_number (reverse events ++ past)
 number_is past [] = refl
 number_is past (e ∷ events) =
     ap (λ (n : ℕ). number_after_all n events) (next_is past e) ∙ number_is (e ∷ past) events
-    ∙ ap (λ (p : List Event). take_count p + 1) (sym (ap (λ (p : List Event). p ++ past) (reverse_onto events e []) ∙ append_assoc (reverse events) (e ∷ []) past)) where
-      next_is : (past : List Event) (e : Event) → number_after (take_count past + 1) e ≡ take_count (e ∷ past) + 1
+    ∙ ap (λ (p : List Event). next_number p) (sym (ap (λ (p : List Event). p ++ past) (reverse_onto events e []) ∙ append_assoc (reverse events) (e ∷ []) past)) where
+      next_is : (past : List Event) (e : Event) → number_after (next_number past) e ≡ next_number (e ∷ past)
       next_is past (Post n) = refl
       next_is past (Submit m) = refl
       next_is past (Emit f) = refl
-      next_is past (Take f) = refl
+      next_is past (Take f) = ap (λ (k : ℕ). k + 1) (sym (length-append (taken_frames past) (f ∷ [])))
       next_is past Cut = refl
 
 -- once they are told, all is
-pub told_all : (past now history : List Event) (told : Told) → told ≡ all_told past → GoesOn past now → reverse history ≡ now → told_after told history ≡ all_told now
+pub told_all : (past now history : List Event) (told : Told) → told ≡ told_of past → GoesOn past now → reverse history ≡ now → told_after told history ≡ told_of now
 told_all past now history told is more h =
     let g = gained past now history more h in
     let long : length history ≡ length now = sym (length-reverse history) ∙ ap length h in
-    let next : number_after_all (take_count past + 1) (drop (length past) history) ≡ take_count now + 1 =
-    ap (λ (es : List Event). number_after_all (take_count past + 1) es) g.dropped ∙ number_is past g.events ∙ ap (λ (p : List Event). take_count p + 1) (sym g.is) in
+    let next : number_after_all (next_number past) (drop (length past) history) ≡ next_number now =
+    ap (λ (es : List Event). number_after_all (next_number past) es) g.dropped ∙ number_is past g.events ∙ ap (λ (p : List Event). next_number p) (sym g.is) in
     rw is (rw (long, next) refl)
 
 entries_text-append : (xs ys : List Entry) → entries_text (xs ++ ys) ≡ entries_text xs ++ entries_text ys
 entries_text-append [] ys = refl
-entries_text-append (x ∷ xs) ys = ap (λ (t : List ℕ). x.line ++ t) (entries_text-append xs ys) ∙ sym (append_assoc x.line (entries_text xs) (entries_text ys))
+entries_text-append (x ∷ xs) ys =
+    ap (λ (t : List ℕ). (x.line ++ codes "\n") ++ t) (entries_text-append xs ys) ∙ sym (append_assoc (x.line ++ codes "\n") (entries_text xs) (entries_text ys))
 
 lines_at-append : (side : EndId) (xs ys : List Entry) → lines_at side (xs ++ ys) ≡ lines_at side xs ++ lines_at side ys
 lines_at-append side [] ys = refl
@@ -137,14 +140,14 @@ lines_at-append side (x ∷ xs) ys =
     ∙ sym (append_assoc (own_line side x.side x.line) (lines_at side xs) (lines_at side ys))
 
 -- a log of both histories, and the lines of what both have gained
-pub log_more : (c s c_now s_now ce se : List Event) (text : List ℕ) (ct st : Told) → IsLog c s text → ct ≡ all_told c → st ≡ all_told s
+pub log_more : (c s c_now s_now ce se : List Event) (text : List ℕ) (ct st : Told) → IsLog c s text → ct ≡ told_of c → st ≡ told_of s
     → GoesOn c c_now → GoesOn s s_now → reverse ce ≡ c_now → reverse se ≡ s_now → IsLog c_now s_now (text ++ new_text ct st ce se)
 log_more c s c_now s_now ce se text ct st log ct_is st_is c_more s_more c_is s_is =
-    let client = lines_from Client (all_told c).next (drop (all_told c).events ce) in
-    let server = lines_from Server (all_told s).next (drop (all_told s).events se) in
+    let client = lines_from Client (told_of c).next (drop (told_of c).events ce) in
+    let server = lines_from Server (told_of s).next (drop (told_of s).events se) in
     rw (ct_is, st_is) (record {
       entries = log.entries ++ both_entries client server;
-      all = ap (λ (t : List ℕ). t ++ (text_of client ++ text_of server)) log.all
+      all = ap (λ (t : List ℕ). t ++ (lines_text client ++ lines_text server)) log.all
           ∙ ap (λ (t : List ℕ). entries_text log.entries ++ t) (sym (both_text client server))
           ∙ sym (entries_text-append log.entries (both_entries client server));
       each = each;
@@ -154,18 +157,18 @@ log_more c s c_now s_now ce se text ct st log ct_is st_is c_more s_more c_is s_i
       opening = ap (λ (es : List Entry). es ++ both_entries client server) log.opening;
     }) where
       each : (side : EndId)
-          → lines_at side (log.entries ++ both_entries (lines_from Client (all_told c).next (drop (all_told c).events ce)) (lines_from Server (all_told s).next (drop (all_told s).events se)))
+          → lines_at side (log.entries ++ both_entries (lines_from Client (told_of c).next (drop (told_of c).events ce)) (lines_from Server (told_of s).next (drop (told_of s).events se)))
           ≡ lines_of_ends c_now s_now side
       each Client =
-          let client = lines_from Client (all_told c).next (drop (all_told c).events ce) in
-          let server = lines_from Server (all_told s).next (drop (all_told s).events se) in
+          let client = lines_from Client (told_of c).next (drop (told_of c).events ce) in
+          let server = lines_from Server (told_of s).next (drop (told_of s).events se) in
           lines_at-append Client log.entries (both_entries client server) ∙ ap (λ (ls : List (List ℕ)). ls ++ lines_at Client (both_entries client server)) (log.each Client)
-          ∙ ap (λ (ls : List (List ℕ)). lines_of Client c ++ ls) (both_at Client client server) ∙ sym (lines_gained Client c c_now ce c_more c_is)
+          ∙ ap (λ (ls : List (List ℕ)). history_lines Client c ++ ls) (both_at Client client server) ∙ sym (lines_gained Client c c_now ce c_more c_is)
       each Server =
-          let client = lines_from Client (all_told c).next (drop (all_told c).events ce) in
-          let server = lines_from Server (all_told s).next (drop (all_told s).events se) in
+          let client = lines_from Client (told_of c).next (drop (told_of c).events ce) in
+          let server = lines_from Server (told_of s).next (drop (told_of s).events se) in
           lines_at-append Server log.entries (both_entries client server) ∙ ap (λ (ls : List (List ℕ)). ls ++ lines_at Server (both_entries client server)) (log.each Server)
-          ∙ ap (λ (ls : List (List ℕ)). lines_of Server s ++ ls) (both_at Server client server) ∙ sym (lines_gained Server s s_now se s_more s_is)
+          ∙ ap (λ (ls : List (List ℕ)). history_lines Server s ++ ls) (both_at Server client server) ∙ sym (lines_gained Server s s_now se s_more s_is)
 
 -- and a front of those lines
 pub log_cut : (c s : List Event) (text new front : List ℕ) → IsLog c s (text ++ new) → IsPrefix front new → BeginsLog c s (text ++ front)

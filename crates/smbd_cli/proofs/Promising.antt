@@ -10,13 +10,14 @@ use Rattle.smbd_outside.specs.declared.status.Status.TheVariants.{Done, WriteFau
 use Rattle.smbd_outside.specs.Causes.{Rose}
 use Rattle.smbd_outside.specs.Streams.{AppendsFront}
 use Rattle.connection_core.specs.Shown.{Shown}
-use Rattle.smbd_cli.specs.declared.telling.Told.{Told}
+use Rattle.run_log.specs.declared.telling.Told.{Told}
 use Rattle.smbd_cli.specs.LogText.{IsLog, BeginsLog}
 use Rattle.smbd_cli.specs.Progress.{moved, HasSaid, IsBetween, IsBeforeTurn, IsAfterTurn, StopsReading}
 use Rattle.smbd_cli.specs.Promise.{Stream, Course, Moves, IsSound, StoresGroups, KeepsPromise}
 use Rattle.smbd_cli.specs.Put.{HasPut}
 use Rattle.smbd_cli.specs.Settled.{GoesOn}
-use Rattle.smbd_cli.specs.Telling.{new_text, told_after}
+use Rattle.run_log.specs.NewLines.{told_after}
+use Rattle.smbd_cli.specs.Telling.{new_text}
 use Rattle.smbd_cli.proofs.Logging.{log_more, log_cut, told_all}
 use Rattle.smbd_cli.proofs.Sounding.{IsSaidOf, said_whole, said_groups, sound_of, told_first, prefix_of-equal}
 

@@ -9,12 +9,13 @@ use Rattle.smbd_outside.specs.declared.status.Status.TheVariants.{WriteFault, No
 use Rattle.smbd_outside.specs.Causes.{Rose}
 use Rattle.smbd_outside.specs.Streams.{AppendsFront}
 use Rattle.connection_core.specs.Shown.{Shown}
-use Rattle.smbd_cli.specs.declared.telling.Told.{Told}
+use Rattle.run_log.specs.declared.telling.Told.{Told}
 use Rattle.smbd_cli.specs.Progress.{moved, HasSaid, IsBeforeTurn, IsAfterTurn}
 use Rattle.smbd_cli.specs.Promise.{Stream, KeepsPromise}
 use Rattle.smbd_cli.specs.Put.{HasPut}
 use Rattle.smbd_cli.specs.Settled.{GoesOn}
-use Rattle.smbd_cli.specs.Telling.{new_text, told_after, CanTell}
+use Rattle.run_log.specs.NewLines.{told_after, CanTell}
+use Rattle.smbd_cli.specs.Telling.{new_text}
 use Rattle.smbd_cli.proofs.Promising.{StopsTelling, stops_in_turn, stops_telling, stops_storing, goes_on}
 use Rattle.smbd_cli.proofs.Turning.{said_of}
 

@@ -1,5 +1,5 @@
 -- From one turn of a copy to the next.
-use Rattle.std.proofs.Common.{◌≡◌, inl, inr, ℕ, ◌+◌, ◌≤◌, Bool, true, false, Option, List, [], ◌∷◌, ◌++◌, length, map, reverse, refl, sym, ap, ◌∙◌, subst, length-append, lit≤, arith}
+use Rattle.std.proofs.Common.{◌≡◌, inl, inr, ℕ, ◌+◌, ◌≤◌, Bool, true, false, Option, List, [], ◌∷◌, ◌++◌, codes, length, map, reverse, refl, sym, ap, ◌∙◌, subst, length-append, lit≤, arith}
 use Rattle.std.proofs.lemmas.List.{append-nil, reverse-reverse}
 use Rattle.std.proofs.KnownBytes.{Consumes-nil, Appends-nil, Consumes-trans}
 use Rattle.std.specs.Io.KnownBytes.{Appends, Consumes, IsAtEnd}
@@ -16,16 +16,18 @@ use Rattle.smbd_outside.specs.declared.status.Status.{Status}
 use Rattle.smbd_outside.specs.declared.status.Status.TheVariants.{Done, NoMemory}
 use Rattle.smbd_outside.specs.Streams.{AppendsFront}
 use Rattle.connection_core.specs.Shown.{Shown}
-use Rattle.smbd_cli.specs.declared.telling.Told.{Told}
+use Rattle.run_log.specs.declared.telling.Told.{Told}
 use Rattle.smbd_cli.specs.Carried.{opened, usual_request, usual_response, with_past, agreed_client, agreed_server}
 use Rattle.smbd_cli.specs.FileMessages.{reply_for}
-use Rattle.smbd_cli.specs.Lines.{line_of, take_count}
+use Rattle.run_log.specs.NewLines.{told_after, told_of}
+use Rattle.run_log.specs.RunLines.{event_line}
+use Rattle.run_log.proofs.Tellable.{taken_few}
 use Rattle.smbd_cli.specs.LogText.{lines_at, lines_of_ends, IsLog}
-use Rattle.smbd_cli.specs.Progress.{moved, HasSaid, all_told, IsBetween, IsBeforeTurn, IsAfterTurn, StopsReading}
+use Rattle.smbd_cli.specs.Progress.{moved, HasSaid, IsBetween, IsBeforeTurn, IsAfterTurn, StopsReading}
 use Rattle.smbd_cli.specs.Promise.{Stream, KeepsPromise}
 use Rattle.smbd_cli.specs.Put.{HasPut}
 use Rattle.smbd_cli.specs.Settled.{GoesOn}
-use Rattle.smbd_cli.specs.Telling.{new_text, told_after}
+use Rattle.smbd_cli.specs.Telling.{new_text}
 use Rattle.smbd_cli.proofs.Groups.{replies_are}
 use Rattle.smbd_cli.proofs.Sending.{lawful}
 use Rattle.smbd_cli.proofs.Promising.{StopsTelling, stops_reading, stops_done}
@@ -75,18 +77,18 @@ said_opening = record {
 
 opening_log : IsLog opening opening opening_text
 opening_log =
-    let first = line_of Client 1 (Post 255) in
-    let second = line_of Server 1 (Post 255) in
+    let first = event_line Client 1 (Post 255) in
+    let second = event_line Server 1 (Post 255) in
     record {
       entries = (record { side = Client; line = first }) ∷ (record { side = Server; line = second }) ∷ [];
-      all = ap (λ (t : List ℕ). t ++ (second ++ [])) (append-nil first);
+      all = ap (λ (t : List ℕ). t ++ ((second ++ codes "\n") ++ [])) (append-nil (first ++ codes "\n"));
       each = each;
       first = first;
       second = second;
       later = [];
       opening = refl;
     } where
-      each : (side : EndId) → lines_at side ((record { side = Client; line = line_of Client 1 (Post 255) }) ∷ (record { side = Server; line = line_of Server 1 (Post 255) }) ∷ [])
+      each : (side : EndId) → lines_at side ((record { side = Client; line = event_line Client 1 (Post 255) }) ∷ (record { side = Server; line = event_line Server 1 (Post 255) }) ∷ [])
           ≡ lines_of_ends opening opening side
       each Client = refl
       each Server = refl
@@ -201,16 +203,8 @@ went_on_server server server_now is = (
 )
 
 -- what was told stands in the past
-take_count-most : (past : List Event) → take_count past ≤ length past
-take_count-most [] = omega arith
-take_count-most (Post n ∷ past) = let le = take_count-most past in omega arith
-take_count-most (Submit m ∷ past) = let le = take_count-most past in omega arith
-take_count-most (Emit f ∷ past) = let le = take_count-most past in omega arith
-take_count-most (Take f ∷ past) = let le = take_count-most past in omega arith
-take_count-most (Cut ∷ past) = let le = take_count-most past in omega arith
-
-pub told_within : (past now : List Event) (told : Told) → told ≡ all_told past → GoesOn past now → (told.events ≤ length now) × (told.next ≤ told.events + 1)
-told_within past now told is more = rw is (omega (arith, ap length more.1, length-append more.0 past), omega (arith, take_count-most past))
+pub told_within : (past now : List Event) (told : Told) → told ≡ told_of past → GoesOn past now → (told.events ≤ length now) × (told.next ≤ told.events + 1)
+told_within past now told is more = rw is (omega (arith, ap length more.1, length-append more.0 past), omega (arith, taken_few past))
 
 -- ---- after a turn
 

@@ -3,7 +3,6 @@ pub mod Command
 pub mod Ends
 pub mod FileMessages
 pub mod Input
-pub mod Lines
 pub mod LogText
 pub mod Plain
 pub mod Progress

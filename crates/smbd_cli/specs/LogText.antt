@@ -1,29 +1,20 @@
 -- A log as a text (this project's own).
-use Rattle.std.specs.Prelude.{◌≡◌, ℕ, List, [], ◌∷◌, ◌++◌}
-use Rattle.std.specs.List.{flat_map}
+use Rattle.std.specs.Prelude.{◌≡◌, ℕ, List, [], ◌∷◌, ◌++◌, codes}
 use mathlib.Core.List.{IsPrefix}
 use Rattle.smbd_base.specs.declared.end_id.EndId.{EndId}
 use Rattle.smbd_base.specs.declared.end_id.EndId.TheVariants.{Client, Server}
 use Rattle.smbd_base.specs.declared.event.Event.{Event}
-use Rattle.smbd_cli.specs.Lines.{lines_of, lines_from}
+use Rattle.run_log.specs.RunLines.{history_lines}
 
--- the bytes of lines, one after another
-abbrev pub text_of : List (List ℕ) → List ℕ
-text_of lines = flat_map (λ (line : List ℕ). line) lines
-
--- the text of the lines of events in the order of time, the client's first; no frame was taken before them
-abbrev pub lines_text : List Event → List Event → List ℕ
-lines_text client server = text_of (lines_from Client 1 client) ++ text_of (lines_from Server 1 server)
-
--- a line of a log, and the side whose line it is
+-- a line of a log, without its line feed, and the side whose line it is
 pub record Entry : Type 0 where
   pub side : EndId
   pub line : List ℕ
 
--- the bytes of a log
+-- the bytes of a log, a line feed after each line
 abbrev pub entries_text : List Entry → List ℕ
 entries_text [] = []
-entries_text (e ∷ entries) = e.line ++ entries_text entries
+entries_text (e ∷ entries) = (e.line ++ codes "\n") ++ entries_text entries
 
 -- a line, where it is of that side
 abbrev pub own_line : EndId → EndId → List ℕ → List (List ℕ)
@@ -39,8 +30,8 @@ lines_at side (e ∷ entries) = own_line side e.side e.line ++ lines_at side ent
 
 -- the lines of both ends
 abbrev pub lines_of_ends : List Event → List Event → EndId → List (List ℕ)
-lines_of_ends client server Client = lines_of Client client
-lines_of_ends client server Server = lines_of Server server
+lines_of_ends client server Client = history_lines Client client
+lines_of_ends client server Server = history_lines Server server
 
 -- The text is a log of these histories: a list of lines, of which each side's, in order, are the lines of its history.
 -- The first line is the client's, its opening post, and the second the server's.

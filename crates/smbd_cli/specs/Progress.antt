@@ -11,8 +11,8 @@ use Rattle.smbd_outside.specs.declared.status.Status.{Status}
 use Rattle.smbd_outside.specs.declared.status.Status.TheVariants.{ReadFault, TooLong}
 use Rattle.smbd_outside.specs.Causes.{Rose}
 use Rattle.connection_core.specs.Shown.{Shown}
-use Rattle.smbd_cli.specs.declared.telling.Told.{Told}
-use Rattle.smbd_cli.specs.Lines.{take_count}
+use Rattle.run_log.specs.declared.telling.Told.{Told}
+use Rattle.run_log.specs.NewLines.{told_of}
 use Rattle.smbd_cli.specs.LogText.{IsLog}
 use Rattle.smbd_cli.specs.Promise.{Stream}
 use Rattle.smbd_cli.specs.Put.{HasPut}
@@ -34,10 +34,6 @@ pub record HasSaid (client server : List Event) (ended : Bool) (bytes : List ℕ
   pub client_uncut : is_cut client ≡ false
   pub server_uncut : is_cut server ≡ false
 
--- what is told of an end where all is told
-abbrev pub all_told : List Event → Told
-all_told past = record { events = length past; next = take_count past + 1 }
-
 -- the counts of faults have not fallen
 pub record HasCounted (source sink log : Stream) : Type 0 where
   pub reads : source.faults_before ≤ source.faults
@@ -50,8 +46,8 @@ pub record IsStored (sink log : Stream) (client server : List Event) (client_tol
   pub text : List ℕ
   pub is_log : IsLog client server text
   pub logged : Appends log.before log.now text
-  pub client_is : client_told ≡ all_told client
-  pub server_is : server_told ≡ all_told server
+  pub client_is : client_told ≡ told_of client
+  pub server_is : server_told ≡ told_of server
   pub stored : Appends sink.before sink.now bytes
 
 -- Between two turns: all that was read was stored.

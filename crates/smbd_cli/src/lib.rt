@@ -5,7 +5,6 @@ mod copy;
 mod exchange;
 mod file_messages;
 mod input;
-mod lines;
 mod options;
 mod plain;
 mod program;

@@ -1,31 +1,16 @@
 //! Telling a log what two ends did.
 
-ghost use Rattle.std.specs.Prelude.{◌≡◌, ◌++◌, ◌+◌, ◌<◌, ◌≤◌, ◌^◌, ◌⊎◌, length, string_bytes, IfOk, IfErr, OnOk, OnErr};
+ghost use Rattle.std.specs.Prelude.{◌≡◌, ◌≤◌, ◌⊎◌, IfErr, OnOk, OnErr};
 ghost use Rattle.std.specs.Io.KnownBytes.{Appends};
 ghost use Rattle.smbd_outside.specs.Causes.{Rose};
 ghost use Rattle.smbd_outside.specs.Streams.{AppendsFront};
-ghost use Rattle.smbd_cli.specs.Telling.{new_lines, new_text, told_after, CanTell};
+ghost use Rattle.run_log.specs.NewLines.{told_after, CanTell};
+ghost use Rattle.smbd_cli.specs.Telling.{new_text};
 
-use crate::lines::add_lines;
-use smbd_base::{EndId, Event, NoMemory};
+use run_log::{Told, add_new_lines};
+use smbd_base::{EndId, Event};
 use smbd_outside::{Failed, Sink, Status, write_whole};
 use std::alloc::Global;
-
-/// What the log has of one end: so many events, and the number of the next frame that the end takes.
-#[derive(Clone, Copy, Debug, PartialEq, Eq)]
-pub struct Told {
-    pub events: usize,
-    pub next: u64,
-}
-
-impl Told {
-    /// Nothing was told.
-    pub fn nothing() -> Told
-        ensures { result ≡ record { events = 0; next = 1 } }
-    {
-        Told { events: 0, next: 1 }
-    }
-}
 
 /// Writes the lines of the events that the log has not to it, in one piece, the client's first.
 pub fn tell<L: Sink>(
@@ -59,23 +44,4 @@ pub fn tell<L: Sink>(
     *client_told = client_now;
     *server_told = server_now;
     Ok(())
-}
-
-/// Adds the lines of the events of one end that were not told. Gives what is told with them.
-fn add_new_lines(
-    alloc: Global,
-    text: &mut String,
-    side: EndId,
-    told: &Told,
-    events: &[Event],
-) -> Result<Told, NoMemory>
-    requires { CanTell told.now events.now }
-    ensures lines { OnOk result (string_bytes text.new ≡ string_bytes text.old ++ new_lines side told.now events.now) }
-    ensures told { IfOk result (λ now. now ≡ told_after told.now events.now) }
-{
-    let next = add_lines(alloc, text, side, told.next, &events[told.events..])?;
-    Ok(Told {
-        events: events.len(),
-        next,
-    })
 }
