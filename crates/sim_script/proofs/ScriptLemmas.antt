@@ -1,10 +1,11 @@
 -- The lines of a script, one after another.
-use Rattle.std.proofs.Common.{◌≡◌, Option, ◌≢◌, ℕ, ◌+◌, ◌%◌, ◌<◌, ◌≤◌, cond, length, List, [], ◌∷◌, ◌++◌, map, Some, None, refl, sym, ap, ◌∙◌, arith}
+use Rattle.std.proofs.Common.{◌≡◌, Option, ◌≢◌, ℕ, ◌+◌, ◌%◌, ◌<◌, ◌≤◌, cond, fold, length, List, [], ◌∷◌, ◌++◌, map, Some, None, refl, sym, ap, ◌∙◌, arith}
 use Rattle.std.specs.Prelude.{All, is_some}
 use Rattle.std.proofs.lemmas.List.Elements.{All-nil, All-cons, All-head, All-tail}
 use Rattle.std.proofs.lemmas.List.FromFn.{map-range_with_len_more}
 use Rattle.event_log.specs.Lines.{lines_text}
 use Rattle.world_core.specs.declared.choice.Choice.{Choice}
+use Rattle.world_core.specs.Run.{State, step_of}
 use Rattle.sim_script.specs.declared.script_line.ScriptLine.{ScriptLine}
 use Rattle.sim_script.specs.declared.fault.ScriptFault.TheVariants.{NoMemory}
 use Rattle.sim_script.specs.Scripts.{lines_in, IsLawfulLine, line_text, script_line, bad_line_from, first_bad_line, counted_bytes, choice_of, choices_in, script_of, IsFaultOf}
@@ -23,6 +24,33 @@ bad_line-bad number line lines h = rw h refl
 pub choices-good : (line : List ℕ) (lines : List (List ℕ)) (said : ScriptLine) → script_line line ≡ Some said
     → choices_in (line ∷ lines) ≡ choice_of said ∷ choices_in lines
 choices-good line lines said h = rw h refl
+
+pub choices-bad : (line : List ℕ) (lines : List (List ℕ)) → script_line line ≡ None → choices_in (line ∷ lines) ≡ choices_in lines
+choices-bad line lines h = rw h refl
+
+-- the run goes on by one choice
+pub one_turn : (world next : State) (rest after line : List ℕ) (said : ScriptLine) → lines_in rest ≡ line ∷ lines_in after → Some said ≡ script_line line
+    → next ≡ step_of world (choice_of said) → fold step_of next (choices_in (lines_in after)) ≡ fold step_of world (choices_in (lines_in rest))
+one_turn world next rest after line said all good is =
+    ap (λ (w : State). fold step_of w (choices_in (lines_in after))) is
+    ∙ sym (ap (λ (cs : List Choice). fold step_of world cs) (ap choices_in all ∙ choices-good line (lines_in after) said (sym good)))
+
+pub no_turn : (world : State) (rest after line : List ℕ) → lines_in rest ≡ line ∷ lines_in after → None ≡ script_line line
+    → fold step_of world (choices_in (lines_in after)) ≡ fold step_of world (choices_in (lines_in rest))
+no_turn world rest after line all bad = sym (ap (λ (cs : List Choice). fold step_of world cs) (ap choices_in all ∙ choices-bad line (lines_in after) (sym bad)))
+
+-- a line makes one choice at most
+few_choices : (line : List ℕ) (lines : List (List ℕ)) → length (choices_in (line ∷ lines)) ≤ length (choices_in lines) + 1
+few_choices line lines = pick (script_line line) refl where
+  pick : (o : Option ScriptLine) → script_line line ≡ o → length (choices_in (line ∷ lines)) ≤ length (choices_in lines) + 1
+  pick None e = omega (arith, ap length (choices-bad line lines e))
+  pick (Some said) e = omega (arith, ap length (choices-good line lines said e))
+
+pub few_left : (text rest after line : List ℕ) → lines_in rest ≡ line ∷ lines_in after → length after < length rest
+    → length (script_of text) + length rest ≤ length text + length (choices_in (lines_in rest))
+    → length (script_of text) + length after ≤ length text + length (choices_in (lines_in after))
+few_left text rest after line all shorter few =
+    omega (arith, shorter, few, ap (λ (ls : List (List ℕ)). length (choices_in ls)) all, few_choices line (lines_in after))
 
 -- bad lines are counted from this number on
 bad_line-least : (number found : ℕ) (lines : List (List ℕ)) → bad_line_from number lines ≡ Some found → number ≤ found

@@ -27,6 +27,6 @@ pub use laws::{
     lines_end_at_line_feeds, written_lines_are_read, written_lines_differ, written_scripts_are_read,
 };
 pub use reading::read_line;
-pub use script::read_script;
+pub use script::{first_bad_line, read_script, run_text};
 pub use script_line::ScriptLine;
 pub use worked::worked_scripts;

@@ -1,15 +1,16 @@
-//! Reading a script.
+//! Reading a script, and running it.
 
-ghost use Rattle.std.specs.Prelude.{◌≡◌, ◌≤◌, length, None, IfOk, IfErr};
+ghost use Rattle.std.specs.Prelude.{◌≡◌, ◌≤◌, length, None, IfOk, IfErr, OnOk};
+ghost use Rattle.world_core.specs.Run.{run_of};
 ghost use Rattle.sim_script.specs.Scripts as spec;
 
 use crate::fault::ScriptFault;
 use crate::lines::next_line;
 use crate::reading::read_line;
 use crate::script_line::ScriptLine;
-use smbd_base::{Message, NoMemory};
+use smbd_base::{EndLimits, Message, NoMemory};
 use std::alloc::Global;
-use world_core::Choice;
+use world_core::{Choice, World};
 
 /// The choices of the lines of a text, in order, or the number, from 1, of the first line that is none.
 #[tactic(auto, using(crate::proofs::ScriptLemmas::past_good_line))]
@@ -34,6 +35,50 @@ pub fn read_script(alloc: Global, text: &[u8]) -> Result<Vec<Choice>, ScriptFaul
         rest = after;
     }
     Ok(choices)
+}
+
+/// The number, from 1, of the first line of a text that is none of a script, where there is one. It takes no memory.
+pub fn first_bad_line(text: &[u8]) -> Option<u64>
+    ensures { result ≡ spec.first_bad_line text.now }
+{
+    let mut rest = text;
+    let mut number: u64 = 0;
+    while let Some((line, after)) = next_line(rest) {
+        number += 1;
+        if read_line(line).is_none() {
+            return Some(number);
+        }
+        rest = after;
+    }
+    None
+}
+
+/// The world of two ends of these limits after the script of a text, or the number, from 1, of its first line that is none.
+/// Nothing is run where a line is bad. Each choice is made when its turn comes, so that a message takes memory only once
+/// it is submitted.
+pub fn run_text(
+    alloc: Global,
+    client: EndLimits,
+    server: EndLimits,
+    text: &[u8],
+) -> Result<World, ScriptFault>
+    ensures good { IfOk result (λ world. spec.first_bad_line text.now ≡ None) }
+    ensures run { IfOk result (λ world. world ≡ run_of client server (spec.script_of text.now)) }
+    ensures few { OnOk result (length (spec.script_of text.now) ≤ length text.now) }
+    ensures fault { IfErr result (λ fault. spec.IsRunFault fault text.now) }
+{
+    if let Some(line) = first_bad_line(text) {
+        return Err(ScriptFault::Line(line));
+    }
+    let mut world = World::open(alloc, client, server)?;
+    let mut rest = text;
+    while let Some((line, after)) = next_line(rest) {
+        if let Some(said) = read_line(line) {
+            world.step(&choice_of(alloc, said)?)?;
+        }
+        rest = after;
+    }
+    Ok(world)
 }
 
 /// The choice that a line makes.

@@ -65,7 +65,7 @@ status_of (Some line) = BadInput line
 -- why a text has no lines of a run
 abbrev pub StopsScript : Status → List ℕ → Type 0
 StopsScript (BadInput line) text = first_bad_line text ≡ Some line
-StopsScript NoMemory text = Unit {0}
+StopsScript NoMemory text = first_bad_line text ≡ None
 StopsScript Done text = ⊥
 StopsScript Usage text = ⊥
 StopsScript ReadFault text = ⊥

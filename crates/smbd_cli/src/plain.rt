@@ -11,11 +11,10 @@ use crate::input::read_input;
 use crate::options::Plain;
 use event_log::{Line, write_lines};
 use run_log::lines_of_run;
-use sim_script::{ScriptFault, read_script};
+use sim_script::{ScriptFault, run_text};
 use smbd_base::{EndLimits, NoMemory};
 use smbd_outside::{Failed, Sink, Source, Status};
 use std::alloc::Global;
-use world_core::run_script;
 
 /// Reads all of the input, at most 16,777,216 bytes, checks it, and then writes what it asks for: for `Sim` the log of the run
 /// of the script that the input is, line by line in the order of the events.
@@ -70,13 +69,10 @@ fn log_of_script(alloc: Global, limits: EndLimits, text: &[u8]) -> Result<Vec<Li
 {
     // said for the contracts: limits are lawful
     let _ = limits.credits();
-    let choices = match read_script(alloc, text) {
-        Ok(choices) => choices,
+    let world = match run_text(alloc, limits, limits, text) {
+        Ok(world) => world,
         Err(ScriptFault::Line(line)) => return Err(Status::BadInput { line }),
         Err(ScriptFault::NoMemory) => return Err(Status::NoMemory),
-    };
-    let Ok(world) = run_script(alloc, limits, limits, &choices) else {
-        return Err(Status::NoMemory);
     };
     match lines_of_run(alloc, &world) {
         Ok(lines) => Ok(lines),
