@@ -1,14 +1,14 @@
 //! Scripts of runs of two ends (this project's own): the reading of a line, and of a text of lines.
 //!
 //! Each line makes one choice. Its parts have one space between each two. Numbers are decimal, with no sign and no
-//! leading zeros. An end is `C`, the client, or `S`, the server.
+//! leading zeros. SIDE is `C`, the client, or `S`, the server.
 //!
 //! | Line | Choice |
 //! |---|---|
-//! | `submit` END LENGTH FIRST | the layer above END submits LENGTH bytes, 1 to 1,048,576, that count up from FIRST, 0 to 255, and go on at 0 after 255 |
-//! | `drive` END | END does what comes next at it |
-//! | `carry` END | END takes the oldest frame in flight to it |
-//! | `cut` END | the link is cut, and END with it |
+//! | `submit` SIDE LENGTH FIRST | the layer above that end submits LENGTH bytes, 1 to 1,048,576, that count up from FIRST, 0 to 255, and go on at 0 after 255 |
+//! | `drive` SIDE | the end does what comes next at it |
+//! | `carry` SIDE | the end takes the oldest frame in flight to it |
+//! | `cut` SIDE | the link is cut, and the end with it |
 //!
 //! Lines are ended by line feeds. The last one may lack its own.
 #![tactic(auto)]
