@@ -1,5 +1,6 @@
 -- What an end records of its credits (MS-SMBD 3.1.1), and how each step changes it.
 use Rattle.std.specs.Prelude.{ℕ, ◌+◌, ◌-◌, ◌≤◌, min, nat_le, Bool, ◌&&◌, ◌||◌}
+use Rattle.smbd_base.specs.declared.limits.TheConstants.{LEAST_CREDITS, MOST_CREDITS}
 use Rattle.smbd_base.specs.Limits.{IsWithin}
 
 -- The credits with which the end may send, the receives that its peer may use, those that it may still grant, and the
@@ -13,7 +14,7 @@ pub record Credits : Type 0 where
 -- no more receives stand than may, and each number lies in its range
 pub record IsKept (c : Credits) : Type 0 where
   pub receives : c.grantable + c.outstanding ≤ c.max_receives
-  pub range : IsWithin 3 255 c.max_receives
+  pub range : IsWithin LEAST_CREDITS MOST_CREDITS c.max_receives
   pub credits : c.held ≤ 65535
 
 -- an end that has posted its receives: one of them, and one credit, are there for the negotiation

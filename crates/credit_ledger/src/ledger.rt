@@ -1,6 +1,7 @@
 //! The ledger: four numbers, and the calls that change them.
 
 ghost use Rattle.std.specs.Prelude.{◌≡◌, ◌+◌, ◌≤◌, true};
+ghost use Rattle.smbd_base.specs.declared.limits.TheConstants.{LEAST_CREDITS, MOST_CREDITS};
 ghost use Rattle.smbd_base.specs.Limits.{IsWithin};
 ghost use Rattle.credit_ledger.specs.Credits as credits;
 
@@ -30,7 +31,7 @@ impl Ledger {
     /// The ledger of an end that has just posted `max` receives, from 3 to 255, the most that it ever has. One credit is
     /// held and one receive is outstanding, for the negotiation; the other receives are grantable.
     pub fn open(max: u16) -> Ledger
-        requires range { IsWithin 3 255 max }
+        requires range { IsWithin LEAST_CREDITS MOST_CREDITS max }
         ensures { result ≡ credits.opened max }
     {
         Ledger {

@@ -8,6 +8,7 @@ use Rattle.std.proofs.lemmas.List.Sums.{AllPass-from_list_all}
 use Rattle.hex.specs.Hex.{decode_of, decode_pairs, digit_or_error, encode_with, encode_lower, hex_digit_value, lower_digits, pair_value, value_at, IsBytes, ◌>>=◌}
 use Rattle.hex.specs.declared.error.FromHexError.{FromHexError}
 use Rattle.hex.proofs.HexLemmas.{decode_of-encode_lower, decode_of-even, decode_of-ok, length-encode_with}
+use Rattle.smbd_base.specs.declared.limits.TheConstants.{MOST_FRAME_SIZE}
 use Rattle.event_log.specs.declared.log_line.LogLine.{LogLine}
 use Rattle.event_log.specs.declared.log_line.LogLine.TheVariants.{Emit}
 use Rattle.event_log.specs.declared.fault.LineFault.{LineFault}
@@ -29,7 +30,7 @@ all_lower-encode (b ∷ rest) h =
     let byte : b < 256 = h 0 in
     and_from _ _ (lower_at (b / 16) (omega arith)) (and_from _ _ (lower_at (b % 16) (omega arith)) (all_lower-encode rest (λ i. h (suc i))))
 
-pub frame_line-encode : (frame : List ℕ) → IsBetween 1 8192 (length frame) → IsBytes frame → frame_line (encode_lower frame) ≡ Ok (Emit frame)
+pub frame_line-encode : (frame : List ℕ) → IsBetween 1 MOST_FRAME_SIZE (length frame) → IsBytes frame → frame_line (encode_lower frame) ≡ Ok (Emit frame)
 frame_line-encode frame fits bytes =
     let low = fits.low in
     let high = fits.high in
@@ -127,7 +128,7 @@ pub record IsFrameOf (digits : List ℕ) (line : LogLine) : Type 0 where
   pub frame : List ℕ
   pub line_is : Emit frame ≡ line
   pub digits_are : digits ≡ encode_lower frame
-  pub fits : IsBetween 1 8192 (length frame)
+  pub fits : IsBetween 1 MOST_FRAME_SIZE (length frame)
   pub bytes : IsBytes frame
 
 emit_line-ok : (digits : List ℕ) (r : Result (List ℕ) FromHexError) (line : LogLine) → decode_of digits ≡ r → emit_line r ≡ Ok line

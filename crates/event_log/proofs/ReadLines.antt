@@ -7,6 +7,8 @@ use Rattle.std.proofs.lemmas.Fmt.{decimal_digit}
 use Rattle.std.proofs.lemmas.List.Splits.{join_with_byte-slice_split}
 use Rattle.std.proofs.lemmas.Slice.Eq.{bytes_eq-Decides}
 use Rattle.hex.specs.Hex.{encode_lower, IsBytes}
+use Rattle.smbd_base.specs.declared.limits.TheConstants.{MOST_CREDITS, MOST_FRAME_SIZE}
+use Rattle.smbd_base.specs.declared.token.TheConstants.{PAGE_SIZE}
 use Rattle.smbd_base.specs.Tokens.{PageToken, IsToken, number_of}
 use Rattle.smbd_base.specs.declared.right.Right.{Right}
 use Rattle.smbd_base.specs.declared.right.Right.TheVariants as rights
@@ -86,8 +88,8 @@ no_bytes i = omega arith
 post_read : (side : Side) → IsEnd side → (parts : List (List ℕ)) (line : LogLine) → post_of parts ≡ Some line → IsReadAs side (codes "post") parts line
 unfolding post_of
 post_read side end parts line h =
-    let a = stepped (next_number 1 255 parts) _ line h in
-    let n = number_part 1 255 parts a.0 a.1 in
+    let a = stepped (next_number 1 MOST_CREDITS parts) _ line h in
+    let n = number_part 1 MOST_CREDITS parts a.0 a.1 in
     let f = no_part (Post a.0.0) line a.0.1 a.2 in
     read_as side (codes "post") parts (decimal a.0.0 ∷ []) (Post a.0.0) line f.1 ((end, n.fits), no_bytes) refl (then_parts _ parts a.0.1 [] n.part f.0)
 
@@ -104,9 +106,9 @@ take_read : (side : Side) → IsEnd side → (parts : List (List ℕ)) (line : L
 unfolding take_of
 take_read side end parts line h =
     let a = stepped (next_number 1 (2 ^ 62 - 1) parts) _ line h in
-    let b = stepped (next_number 1 8192 a.0.1) _ line a.2 in
+    let b = stepped (next_number 1 MOST_FRAME_SIZE a.0.1) _ line a.2 in
     let n = number_part 1 (2 ^ 62 - 1) parts a.0 a.1 in
-    let m = number_part 1 8192 a.0.1 b.0 b.1 in
+    let m = number_part 1 MOST_FRAME_SIZE a.0.1 b.0 b.1 in
     let f = no_part (Take a.0.0 b.0.0) line b.0.1 b.2 in
     read_as side (codes "take") parts (decimal a.0.0 ∷ decimal b.0.0 ∷ []) (Take a.0.0 b.0.0) line f.1 ((end, n.fits, m.fits), no_bytes) refl
     (then_parts _ parts a.0.1 _ n.part (then_parts _ a.0.1 b.0.1 [] m.part f.0))
@@ -143,14 +145,14 @@ unfolding load_of
 load_read side worker parts line h =
     let a = stepped (next_number 256 4294967295 parts) _ line h in
     let r = stepped (next_right a.0.1) _ line a.2 in
-    let b = stepped (next_number 1 4096 r.0.1) _ line r.2 in
+    let b = stepped (next_number 1 PAGE_SIZE r.0.1) _ line r.2 in
     let t = number_part 256 4294967295 parts a.0 a.1 in
-    let m = number_part 1 4096 r.0.1 b.0 b.1 in
+    let m = number_part 1 PAGE_SIZE r.0.1 b.0 b.1 in
     let f = no_part (Load (token_numbered a.0.0) r.0.0 b.0.0) line b.0.1 b.2 in
     read_as side (codes "load") parts (decimal (number_of (token_numbered a.0.0)) ∷ right_text r.0.0 ∷ decimal b.0.0 ∷ []) (Load (token_numbered a.0.0) r.0.0 b.0.0) line f.1 ((worker, token_lawful a.0.0 t.fits, m.fits), no_bytes) (load_words (token_numbered a.0.0) r.0.0 b.0.0)
     (token_part a.0.0 parts a.0.1 _ t.part (then_parts _ a.0.1 r.0.1 _ (right_part a.0.1 r.0 r.1) (then_parts _ r.0.1 b.0.1 [] m.part f.0)))
 
-in_page : (at len : ℕ) → IsBetween 0 4095 at → IsBetween 1 (4096 - at) len → IsInPage at len
+in_page : (at len : ℕ) → IsBetween 0 (PAGE_SIZE - 1) at → IsBetween 1 (PAGE_SIZE - at) len → IsInPage at len
 in_page at len a b =
     let most = a.high in
     let low = b.low in
@@ -162,11 +164,11 @@ fetch_read : (side : Side) → IsWorker side → (parts : List (List ℕ)) (line
 unfolding fetch_of
 fetch_read side worker parts line h =
     let a = stepped (next_number 256 4294967295 parts) _ line h in
-    let p = stepped (next_number 0 4095 a.0.1) _ line a.2 in
-    let b = stepped (next_number 1 (4096 - p.0.0) p.0.1) _ line p.2 in
+    let p = stepped (next_number 0 (PAGE_SIZE - 1) a.0.1) _ line a.2 in
+    let b = stepped (next_number 1 (PAGE_SIZE - p.0.0) p.0.1) _ line p.2 in
     let t = number_part 256 4294967295 parts a.0 a.1 in
-    let q = number_part 0 4095 a.0.1 p.0 p.1 in
-    let m = number_part 1 (4096 - p.0.0) p.0.1 b.0 b.1 in
+    let q = number_part 0 (PAGE_SIZE - 1) a.0.1 p.0 p.1 in
+    let m = number_part 1 (PAGE_SIZE - p.0.0) p.0.1 b.0 b.1 in
     let f = no_part (Fetch (token_numbered a.0.0) p.0.0 b.0.0) line b.0.1 b.2 in
     read_as side (codes "fetch") parts (decimal (number_of (token_numbered a.0.0)) ∷ decimal p.0.0 ∷ decimal b.0.0 ∷ []) (Fetch (token_numbered a.0.0) p.0.0 b.0.0) line f.1
     ((worker, token_lawful a.0.0 t.fits, in_page p.0.0 b.0.0 q.fits m.fits), no_bytes) (fetch_words (token_numbered a.0.0) p.0.0 b.0.0)
@@ -178,12 +180,12 @@ unfolding place_of
 place_read side worker parts line h =
     let a = stepped (next_number 256 4294967295 parts) _ line h in
     let o = stepped (next_number 0 65534 a.0.1) _ line a.2 in
-    let p = stepped (next_number 0 4095 o.0.1) _ line o.2 in
-    let b = stepped (next_number 1 (4096 - p.0.0) p.0.1) _ line p.2 in
+    let p = stepped (next_number 0 (PAGE_SIZE - 1) o.0.1) _ line o.2 in
+    let b = stepped (next_number 1 (PAGE_SIZE - p.0.0) p.0.1) _ line p.2 in
     let t = number_part 256 4294967295 parts a.0 a.1 in
     let c = number_part 0 65534 a.0.1 o.0 o.1 in
-    let q = number_part 0 4095 o.0.1 p.0 p.1 in
-    let m = number_part 1 (4096 - p.0.0) p.0.1 b.0 b.1 in
+    let q = number_part 0 (PAGE_SIZE - 1) o.0.1 p.0 p.1 in
+    let m = number_part 1 (PAGE_SIZE - p.0.0) p.0.1 b.0 b.1 in
     let f = no_part (Place (token_numbered a.0.0) o.0.0 p.0.0 b.0.0) line b.0.1 b.2 in
     read_as side (codes "place") parts (decimal (number_of (token_numbered a.0.0)) ∷ decimal o.0.0 ∷ decimal p.0.0 ∷ decimal b.0.0 ∷ []) (Place (token_numbered a.0.0) o.0.0 p.0.0 b.0.0) line f.1
     ((worker, token_lawful a.0.0 t.fits, c.fits, in_page p.0.0 b.0.0 q.fits m.fits), no_bytes) (place_words (token_numbered a.0.0) o.0.0 p.0.0 b.0.0)

@@ -6,6 +6,8 @@ use Rattle.std.proofs.lemmas.Fmt.{decimal_digit}
 use Rattle.std.proofs.lemmas.List.Elements.{All-nil, All-cons}
 use Rattle.hex.specs.Hex.{encode_lower, lower_digits}
 use Rattle.hex.proofs.HexLemmas.{length-encode_with}
+use Rattle.smbd_base.specs.declared.limits.TheConstants.{MOST_CREDITS, MOST_FRAME_SIZE}
+use Rattle.smbd_base.specs.declared.token.TheConstants.{PAGE_SIZE}
 use Rattle.smbd_base.specs.Tokens.{PageToken, IsToken, number_of}
 use Rattle.smbd_base.specs.declared.right.Right.{Right}
 use Rattle.smbd_base.specs.declared.right.Right.TheVariants as rights
@@ -105,28 +107,28 @@ unfolding right_named
 read_right rights.Fetch = refl
 read_right rights.Place = refl
 
-post_back : (count : ℕ) → IsBetween 1 255 count → post_of (decimal count ∷ []) ≡ Some (Post count)
+post_back : (count : ℕ) → IsBetween 1 MOST_CREDITS count → post_of (decimal count ∷ []) ≡ Some (Post count)
 unfolding post_of
-post_back count b = let high = b.high in rw (read_number 1 255 count (omega arith) b.low b.high) refl
+post_back count b = let high = b.high in rw (read_number 1 MOST_CREDITS count (omega arith) b.low b.high) refl
 
 submit_back : (len : ℕ) → IsBetween 1 4294967295 len → submit_of (decimal len ∷ []) ≡ Some (Submit len)
 unfolding submit_of
 submit_back len b = let high = b.high in rw (read_number 1 4294967295 len (omega arith) b.low b.high) refl
 
-take_back : (number len : ℕ) → IsBetween 1 (2 ^ 62 - 1) number → IsBetween 1 8192 len
+take_back : (number len : ℕ) → IsBetween 1 (2 ^ 62 - 1) number → IsBetween 1 MOST_FRAME_SIZE len
     → take_of (decimal number ∷ decimal len ∷ []) ≡ Some (Take number len)
 unfolding take_of
 take_back number len a b =
     let most = a.high in
     let high = b.high in
-    rw (read_number 1 (2 ^ 62 - 1) number (omega arith) a.low a.high, read_number 1 8192 len (omega arith) b.low b.high) refl
+    rw (read_number 1 (2 ^ 62 - 1) number (omega arith) a.low a.high, read_number 1 MOST_FRAME_SIZE len (omega arith) b.low b.high) refl
 
-load_back : (token : PageToken) (right : Right) (len : ℕ) → IsToken token → IsBetween 1 4096 len
+load_back : (token : PageToken) (right : Right) (len : ℕ) → IsToken token → IsBetween 1 PAGE_SIZE len
     → load_of (decimal (number_of token) ∷ right_text right ∷ decimal len ∷ []) ≡ Some (Load token right len)
 unfolding load_of
 load_back token right len t b =
     let high = b.high in
-    rw (read_token token t, read_right right, read_number 1 4096 len (omega arith) b.low b.high, token_back token t) refl
+    rw (read_token token t, read_right right, read_number 1 PAGE_SIZE len (omega arith) b.low b.high, token_back token t) refl
 
 fetch_back : (token : PageToken) (at len : ℕ) → IsToken token → IsInPage at len
     → fetch_of (decimal (number_of token) ∷ decimal at ∷ decimal len ∷ []) ≡ Some (Fetch token at len)
@@ -136,8 +138,8 @@ fetch_back token at len t b =
     let within = b.within in
     rw (
       read_token token t,
-      read_number 0 4095 at (omega arith) (omega arith) (omega arith),
-      read_number 1 (4096 - at) len (omega arith) (omega arith) (omega arith),
+      read_number 0 (PAGE_SIZE - 1) at (omega arith) (omega arith) (omega arith),
+      read_number 1 (PAGE_SIZE - at) len (omega arith) (omega arith) (omega arith),
       token_back token t,
     ) refl
 
@@ -151,8 +153,8 @@ place_back token order at len t o b =
     rw (
       read_token token t,
       read_number 0 65534 order (omega arith) o.low o.high,
-      read_number 0 4095 at (omega arith) (omega arith) (omega arith),
-      read_number 1 (4096 - at) len (omega arith) (omega arith) (omega arith),
+      read_number 0 (PAGE_SIZE - 1) at (omega arith) (omega arith) (omega arith),
+      read_number 1 (PAGE_SIZE - at) len (omega arith) (omega arith) (omega arith),
       token_back token t,
     ) refl
 

@@ -2,6 +2,8 @@
 use Rattle.std.specs.Prelude.{ℕ, ◌+◌, ◌-◌, ◌^◌, ◌≤◌, List, [], ◌∷◌, ◌++◌, length, codes, decimal}
 use Rattle.std.specs.List.{join_with_byte, flat_map}
 use Rattle.hex.specs.Hex.{encode_lower, IsBytes}
+use Rattle.smbd_base.specs.declared.limits.TheConstants.{MOST_CREDITS, MOST_FRAME_SIZE}
+use Rattle.smbd_base.specs.declared.token.TheConstants.{PAGE_SIZE}
 use Rattle.smbd_base.specs.Tokens.{number_of, IsToken}
 use Rattle.smbd_base.specs.declared.event.Event.{Event}
 use Rattle.smbd_base.specs.declared.event.Event.TheVariants as events
@@ -67,17 +69,17 @@ IsWorker (Sw worker) = IsBetween 1 8 worker
 -- bytes of one page: at least one, and none past the page's end
 pub record IsInPage (at len : ℕ) : Type 0 where
   pub some : 1 ≤ len
-  pub within : at + len ≤ 4096
+  pub within : at + len ≤ PAGE_SIZE
 
 -- the numbers that a line can have, and the sides under which it can stand: an end's events under the end, and a
 -- page's under the worker
 abbrev pub HasLawfulNumbers : Side → LogLine → Type 0
-HasLawfulNumbers side (Post count) = IsEnd side × IsBetween 1 255 count
+HasLawfulNumbers side (Post count) = IsEnd side × IsBetween 1 MOST_CREDITS count
 HasLawfulNumbers side (Submit len) = IsEnd side × IsBetween 1 4294967295 len
-HasLawfulNumbers side (Emit frame) = IsEnd side × IsBetween 1 8192 (length frame)
-HasLawfulNumbers side (Take number len) = IsEnd side × IsBetween 1 (2 ^ 62 - 1) number × IsBetween 1 8192 len
+HasLawfulNumbers side (Emit frame) = IsEnd side × IsBetween 1 MOST_FRAME_SIZE (length frame)
+HasLawfulNumbers side (Take number len) = IsEnd side × IsBetween 1 (2 ^ 62 - 1) number × IsBetween 1 MOST_FRAME_SIZE len
 HasLawfulNumbers side Cut = IsEnd side
-HasLawfulNumbers side (Load token right len) = IsWorker side × IsToken token × IsBetween 1 4096 len
+HasLawfulNumbers side (Load token right len) = IsWorker side × IsToken token × IsBetween 1 PAGE_SIZE len
 HasLawfulNumbers side (Fetch token at len) = IsWorker side × IsToken token × IsInPage at len
 HasLawfulNumbers side (Place token order at len) =
     IsWorker side × IsToken token × IsBetween 0 65534 order × IsInPage at len

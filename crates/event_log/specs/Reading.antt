@@ -5,6 +5,8 @@ use Rattle.std.specs.Str.Parse.{digits_value}
 use denote.Ref.{Bor}
 use Rattle.hex.specs.Hex.{decode_of}
 use Rattle.hex.specs.declared.error.FromHexError.{FromHexError}
+use Rattle.smbd_base.specs.declared.limits.TheConstants.{MOST_CREDITS, MOST_FRAME_SIZE}
+use Rattle.smbd_base.specs.declared.token.TheConstants.{PAGE_SIZE}
 use Rattle.smbd_base.specs.Tokens.{PageToken}
 use Rattle.smbd_base.specs.declared.right.Right.{Right}
 use Rattle.smbd_base.specs.declared.right.Right.TheVariants as rights
@@ -119,30 +121,30 @@ emit_of parts = Err faults.Number
 
 -- each other line, by the parts after its word
 unfoldable pub post_of : List (List ℕ) → Option LogLine
-post_of parts = next_number 1 255 parts >>= (λ count. line_at_end (Post count.0) count.1)
+post_of parts = next_number 1 MOST_CREDITS parts >>= (λ count. line_at_end (Post count.0) count.1)
 
 unfoldable pub submit_of : List (List ℕ) → Option LogLine
 submit_of parts = next_number 1 4294967295 parts >>= (λ len. line_at_end (Submit len.0) len.1)
 
 unfoldable pub take_of : List (List ℕ) → Option LogLine
 take_of parts =
-    next_number 1 (2 ^ 62 - 1) parts >>= (λ number. next_number 1 8192 number.1
+    next_number 1 (2 ^ 62 - 1) parts >>= (λ number. next_number 1 MOST_FRAME_SIZE number.1
     >>= (λ len. line_at_end (Take number.0 len.0) len.1))
 
 unfoldable pub load_of : List (List ℕ) → Option LogLine
 load_of parts =
-    next_number 256 4294967295 parts >>= (λ token. next_right token.1 >>= (λ right. next_number 1 4096 right.1
+    next_number 256 4294967295 parts >>= (λ token. next_right token.1 >>= (λ right. next_number 1 PAGE_SIZE right.1
     >>= (λ len. line_at_end (Load (token_numbered token.0) right.0 len.0) len.1)))
 
 unfoldable pub fetch_of : List (List ℕ) → Option LogLine
 fetch_of parts =
-    next_number 256 4294967295 parts >>= (λ token. next_number 0 4095 token.1 >>= (λ at. next_number 1 (4096 - at.0) at.1
+    next_number 256 4294967295 parts >>= (λ token. next_number 0 (PAGE_SIZE - 1) token.1 >>= (λ at. next_number 1 (PAGE_SIZE - at.0) at.1
     >>= (λ len. line_at_end (Fetch (token_numbered token.0) at.0 len.0) len.1)))
 
 unfoldable pub place_of : List (List ℕ) → Option LogLine
 place_of parts =
-    next_number 256 4294967295 parts >>= (λ token. next_number 0 65534 token.1 >>= (λ order. next_number 0 4095 order.1
-    >>= (λ at. next_number 1 (4096 - at.0) at.1
+    next_number 256 4294967295 parts >>= (λ token. next_number 0 65534 token.1 >>= (λ order. next_number 0 (PAGE_SIZE - 1) order.1
+    >>= (λ at. next_number 1 (PAGE_SIZE - at.0) at.1
     >>= (λ len. line_at_end (Place (token_numbered token.0) order.0 at.0 len.0) len.1))))
 
 unfoldable pub unload_of : List (List ℕ) → Option LogLine

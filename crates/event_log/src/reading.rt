@@ -10,7 +10,7 @@ use crate::log_line::LogLine;
 use crate::parts::{first_part, next_number, next_right};
 use crate::side::Side;
 use crate::word::{Word, side_named, word_named};
-use smbd_base::{Frame, Token};
+use smbd_base::{Frame, MOST_CREDITS, MOST_FRAME_SIZE, PAGE_SIZE, Token};
 use std::alloc::Global;
 
 /// The line that these bytes say, without a line feed, or the first fault, in the order of `LineFault`'s comment. It takes
@@ -83,7 +83,7 @@ fn line_at_end(line: LogLine, rest: Option<&[u8]>) -> Option<LogLine>
 fn post_of(rest: Option<&[u8]>) -> Option<LogLine>
     ensures { result ≡ spec.post_of (spec.parts_left rest.entry) }
 {
-    let (receives, rest) = next_number(rest, 1, 255)?;
+    let (receives, rest) = next_number(rest, 1, MOST_CREDITS as u64)?;
     line_at_end(LogLine::Post(receives as u16), rest)
 }
 
@@ -152,7 +152,7 @@ fn take_of(rest: Option<&[u8]>) -> Option<LogLine>
     ensures { result ≡ spec.take_of (spec.parts_left rest.entry) }
 {
     let (number, rest) = next_number(rest, 1, 4_611_686_018_427_387_903)?;
-    let (size, rest) = next_number(rest, 1, 8_192)?;
+    let (size, rest) = next_number(rest, 1, MOST_FRAME_SIZE as u64)?;
     let length = size as u32;
     line_at_end(LogLine::Take { number, length }, rest)
 }
@@ -163,7 +163,7 @@ fn load_of(rest: Option<&[u8]>) -> Option<LogLine>
 {
     let (number, rest) = next_number(rest, 256, 4_294_967_295)?;
     let (right, rest) = next_right(rest)?;
-    let (size, rest) = next_number(rest, 1, 4_096)?;
+    let (size, rest) = next_number(rest, 1, PAGE_SIZE as u64)?;
     let token = token_numbered(number);
     let length = size as u32;
     line_at_end(
@@ -181,8 +181,8 @@ fn fetch_of(rest: Option<&[u8]>) -> Option<LogLine>
     ensures { result ≡ spec.fetch_of (spec.parts_left rest.entry) }
 {
     let (number, rest) = next_number(rest, 256, 4_294_967_295)?;
-    let (place, rest) = next_number(rest, 0, 4_095)?;
-    let (size, rest) = next_number(rest, 1, 4_096 - place)?;
+    let (place, rest) = next_number(rest, 0, PAGE_SIZE as u64 - 1)?;
+    let (size, rest) = next_number(rest, 1, PAGE_SIZE as u64 - place)?;
     let token = token_numbered(number);
     let at = place as u32;
     let length = size as u32;
@@ -195,8 +195,8 @@ fn place_of(rest: Option<&[u8]>) -> Option<LogLine>
 {
     let (number, rest) = next_number(rest, 256, 4_294_967_295)?;
     let (count, rest) = next_number(rest, 0, 65_534)?;
-    let (place, rest) = next_number(rest, 0, 4_095)?;
-    let (size, rest) = next_number(rest, 1, 4_096 - place)?;
+    let (place, rest) = next_number(rest, 0, PAGE_SIZE as u64 - 1)?;
+    let (size, rest) = next_number(rest, 1, PAGE_SIZE as u64 - place)?;
     let token = token_numbered(number);
     let order = count as u32;
     let at = place as u32;

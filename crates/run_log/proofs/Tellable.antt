@@ -8,6 +8,7 @@ use Rattle.smbd_base.specs.declared.end_id.EndId.TheVariants.{Client, Server}
 use Rattle.smbd_base.specs.declared.event.Event.{Event}
 use Rattle.smbd_base.specs.declared.event.Event.TheVariants.{Post, Submit, Emit, Take, Cut}
 use Rattle.smbd_base.specs.declared.faults.FrameFault.{FrameFault}
+use Rattle.smbd_base.specs.declared.limits.TheConstants.{MOST_CREDITS, MOST_FRAME_SIZE}
 use Rattle.smbd_base.specs.Limits.{Limits, IsLawful}
 use Rattle.smbd_base.specs.Counts.{receives_grantable}
 use Rattle.smbd_base.specs.DataFrame.{DataFrame, data_frame_of}
@@ -28,7 +29,7 @@ use Rattle.run_log.specs.RunLines.{side_of, AreTellable}
 
 -- the frame fits a line
 abbrev pub FitsLine : List ℕ → Type 0
-FitsLine frame = IsBetween 1 8192 (length frame)
+FitsLine frame = IsBetween 1 MOST_FRAME_SIZE (length frame)
 
 abbrev pub FitLines : List (List ℕ) → Type 0
 FitLines [] = Unit {0}
@@ -52,7 +53,7 @@ long_enough : (frame : List ℕ) → is_ok (data_frame_of frame) ≡ true → 20
 unfolding data_frame_of
 long_enough frame read = long_by (length frame) (nat_lt (length frame) 20) _ _ refl read
 
-sound_fit : (longest : ℕ) (frames : List (List ℕ)) → longest ≤ 8192 → AreSound longest frames → FitLines frames
+sound_fit : (longest : ℕ) (frames : List (List ℕ)) → longest ≤ MOST_FRAME_SIZE → AreSound longest frames → FitLines frames
 sound_fit longest [] few sound = tt
 sound_fit longest (f ∷ frames) few sound =
     (record { low = omega (arith, long_enough f sound.0.read); high = omega (arith, sound.0.short) }, sound_fit longest frames few sound.1)
@@ -107,9 +108,9 @@ record HasRanges (max : ℕ) (past : List Event) : Type 0 where
   short : AreShort max (messages_submitted past)
   few : length (taken_frames past) < 2 ^ 62
 
-post_between : (end : EndId) (limits : Limits) (past : List Event) (n : ℕ) → IsLawful limits → IsLegal end limits (Post n ∷ past) → IsBetween 1 255 n
+post_between : (end : EndId) (limits : Limits) (past : List Event) (n : ℕ) → IsLawful limits → IsLegal end limits (Post n ∷ past) → IsBetween 1 MOST_CREDITS n
 post_between end limits past n lawful legal =
-    elim (posts end limits past n legal.0).1 as (λ _. IsBetween 1 255 n) [
+    elim (posts end limits past n legal.0).1 as (λ _. IsBetween 1 MOST_CREDITS n) [
       | inl opening ↦ record { low = omega (arith, opening.1, lawful.credits.0); high = omega (arith, opening.1, lawful.credits.1) }
       | inr later ↦ record { low = omega (arith, later.3); high = omega (arith, later.3) }
     ]

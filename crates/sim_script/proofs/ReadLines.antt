@@ -4,6 +4,7 @@ use Rattle.std.specs.Prelude.{codes, bytes_eq, IfSome}
 use Rattle.std.specs.List.{join_with_byte}
 use Rattle.std.proofs.lemmas.List.Splits.{join_with_byte-slice_split}
 use Rattle.std.proofs.lemmas.Slice.Eq.{bytes_eq-Decides}
+use Rattle.smbd_base.specs.declared.limits.TheConstants.{MOST_FRAGMENTED_SIZE}
 use Rattle.smbd_base.specs.declared.end_id.EndId.{EndId}
 use Rattle.smbd_base.specs.declared.end_id.EndId.TheVariants.{Client, Server}
 use Rattle.event_log.specs.Lines.{IsBetween}
@@ -54,9 +55,9 @@ read_as name end parts more line whole same lawful is rest =
 submit_read : (end : EndId) (parts : List (List ℕ)) (line : ScriptLine) → submit_of end parts ≡ Some line → IsReadAs (codes "submit") end parts line
 unfolding submit_of
 submit_read end parts line h =
-    let a = stepped (next_number 1 1048576 parts) _ line h in
+    let a = stepped (next_number 1 MOST_FRAGMENTED_SIZE parts) _ line h in
     let b = stepped (next_number 0 255 a.0.1) _ line a.2 in
-    let n = number_part 1 1048576 parts a.0 a.1 in
+    let n = number_part 1 MOST_FRAGMENTED_SIZE parts a.0 a.1 in
     let m = number_part 0 255 a.0.1 b.0 b.1 in
     let f = no_part (Submit end a.0.0 b.0.0) line b.0.1 b.2 in
     read_as (codes "submit") end parts (decimal a.0.0 ∷ decimal b.0.0 ∷ []) (Submit end a.0.0 b.0.0) line f.1 (n.fits, m.fits) refl

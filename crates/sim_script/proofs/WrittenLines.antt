@@ -1,6 +1,7 @@
 -- What is written reads back.
 use Rattle.std.proofs.Common.{◌≡◌, ◌≢◌, ℕ, ◌^◌, ◌<◌, ◌≤◌, List, [], ◌∷◌, Option, Some, decimal, refl, sym, ap, ◌∙◌, arith}
 use Rattle.std.specs.Prelude.{All, codes}
+use Rattle.smbd_base.specs.declared.limits.TheConstants.{MOST_FRAGMENTED_SIZE}
 use Rattle.smbd_base.specs.declared.end_id.EndId.{EndId}
 use Rattle.smbd_base.specs.declared.end_id.EndId.TheVariants.{Client, Server}
 use Rattle.event_log.specs.Lines.{IsBetween}
@@ -25,13 +26,13 @@ end_plain Server = plain_from_test (codes "S") refl
 read_number : (least most n : ℕ) → n < 2 ^ 64 → least ≤ n → n ≤ most → number_in least most (decimal n) ≡ Some n
 read_number least most n small low high = sym (number_in-inside least most n (decimal n) small refl low high)
 
-submit_back : (end : EndId) (len first : ℕ) → IsBetween 1 1048576 len → IsBetween 0 255 first
+submit_back : (end : EndId) (len first : ℕ) → IsBetween 1 MOST_FRAGMENTED_SIZE len → IsBetween 0 255 first
     → submit_of end (decimal len ∷ decimal first ∷ []) ≡ Some (Submit end len first)
 unfolding submit_of
 submit_back end len first a b =
     let most = a.high in
     let high = b.high in
-    rw (read_number 1 1048576 len (omega arith) a.low a.high, read_number 0 255 first (omega arith) b.low b.high) refl
+    rw (read_number 1 MOST_FRAGMENTED_SIZE len (omega arith) a.low a.high, read_number 0 255 first (omega arith) b.low b.high) refl
 
 -- a word, an end and the parts after them, each of which reads
 parts_read : (name : List ℕ) (end : EndId) (parts : List (List ℕ)) (word : Word) (line : ScriptLine) → word_named name ≡ Some word

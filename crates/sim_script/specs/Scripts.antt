@@ -4,6 +4,7 @@ use Rattle.std.specs.List.{join_with_byte, slice_split, filter_map, range_with_l
 use denote.Ref.{Bor}
 use Rattle.smbd_base.specs.declared.end_id.EndId.{EndId}
 use Rattle.smbd_base.specs.declared.end_id.EndId.TheVariants.{Client, Server}
+use Rattle.smbd_base.specs.declared.limits.TheConstants.{MOST_FRAGMENTED_SIZE}
 use Rattle.event_log.specs.Lines.{IsBetween}
 use Rattle.event_log.specs.Reading.{parts_of, next_number, parts_left, ◌>>=◌}
 use Rattle.world_core.specs.declared.choice.Choice.{Choice}
@@ -35,7 +36,7 @@ line_text line = join_with_byte 32 (words_of line)
 
 -- the numbers of a line lie in their ranges
 abbrev pub IsLawfulLine : ScriptLine → Type 0
-IsLawfulLine (Submit end len first) = IsBetween 1 1048576 len × IsBetween 0 255 first
+IsLawfulLine (Submit end len first) = IsBetween 1 MOST_FRAGMENTED_SIZE len × IsBetween 0 255 first
 IsLawfulLine (Drive end) = Unit {0}
 IsLawfulLine (Carry end) = Unit {0}
 IsLawfulLine (Cut end) = Unit {0}
@@ -68,7 +69,7 @@ line_at_end line (part ∷ parts) = None
 -- the line of a message: its length and its first byte are left
 unfoldable pub submit_of : EndId → List (List ℕ) → Option ScriptLine
 submit_of end parts =
-    next_number 1 1048576 parts >>= (λ len. next_number 0 255 len.1 >>= (λ first. line_at_end (Submit end len.0 first.0) first.1))
+    next_number 1 MOST_FRAGMENTED_SIZE parts >>= (λ len. next_number 0 255 len.1 >>= (λ first. line_at_end (Submit end len.0 first.0) first.1))
 
 -- the line of a word and an end, by the parts after these
 abbrev pub line_of_word : Word → EndId → List (List ℕ) → Option ScriptLine

@@ -7,7 +7,7 @@ ghost use Rattle.sim_script.specs.Scripts as spec;
 use crate::script_line::ScriptLine;
 use crate::word::{Word, next_end, word_named};
 use event_log::{first_part, next_number};
-use smbd_base::EndId;
+use smbd_base::{EndId, MOST_FRAGMENTED_SIZE};
 
 /// The line that these bytes are, without a line feed, if they are one. It takes no memory.
 #[tactic(auto, unfolding(crate::specs::Scripts::script_line))]
@@ -38,7 +38,7 @@ fn line_of_word(word: Word, end: EndId, rest: Option<&[u8]>) -> Option<ScriptLin
 fn submit_of(end: EndId, rest: Option<&[u8]>) -> Option<ScriptLine>
     ensures { result ≡ spec.submit_of end (parts_left rest.entry) }
 {
-    let (bytes, rest) = next_number(rest, 1, 1_048_576)?;
+    let (bytes, rest) = next_number(rest, 1, MOST_FRAGMENTED_SIZE as u64)?;
     let (byte, rest) = next_number(rest, 0, 255)?;
     let length = bytes as u32;
     let first = byte as u8;
