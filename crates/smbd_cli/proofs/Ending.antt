@@ -9,7 +9,7 @@ use Rattle.smbd_base.specs.Limits.{usual_limits}
 use Rattle.smbd_base.specs.History.{messages_submitted}
 use Rattle.smbd_base.specs.Delivery.{messages_delivered}
 use Rattle.connection_core.specs.Shown.{Shown}
-use Rattle.smbd_cli.specs.FileMessages.{carried_by, end_request}
+use Rattle.smbd_cli.specs.Requests.{carried_by, end_request}
 use Rattle.smbd_cli.specs.Put.{AreRequests, AreAtRest, ArePair, HasCaughtUp, HasCalled, HasPut, stored_by, with_submitted, writes_at}
 use Rattle.smbd_cli.specs.PutRun.{Group, groups, groups_from, groups_count, write_of}
 use Rattle.smbd_cli.specs.Settled.{GoesOn, AllFitPut}

@@ -10,7 +10,7 @@ use Rattle.smbd_base.specs.History.{next_event, take_fault, fault_expecting}
 use Rattle.smbd_base.proofs.FrameLaws.{u16_at-append, u32_at-append}
 use Rattle.connection_core.specs.Shown.{Shown}
 use Rattle.smbd_cli.specs.Carried.{opened, with_past, agreed_client, agreed_server}
-use Rattle.smbd_cli.specs.FileMessages.{write_request, end_request, write_reply, end_reply, reply_for}
+use Rattle.smbd_cli.specs.Requests.{write_request, end_request, write_reply, end_reply, reply_for}
 use Rattle.smbd_cli.specs.Put.{AreAtRest, HasPut}
 use Rattle.smbd_cli.specs.PutRun.{Group, groups, groups_from, groups_count, write_of, reply_of, last_request, last_reply, put_requests, put_replies}
 use Rattle.smbd_cli.specs.Settled.{IsSettled, AreBeside, HasSent}

@@ -10,7 +10,7 @@ use Rattle.smbd_base.specs.History.{messages_submitted}
 use Rattle.smbd_base.specs.Delivery.{messages_delivered}
 use Rattle.smbd_outside.specs.Streams.{AppendsFront}
 use Rattle.connection_core.specs.Shown.{Shown}
-use Rattle.smbd_cli.specs.FileMessages.{carried_by}
+use Rattle.smbd_cli.specs.Requests.{carried_by}
 use Rattle.smbd_cli.specs.Put.{AreRequests, ArePair, HasCalled, stored_by}
 use Rattle.smbd_cli.specs.Settled.{GoesOn}
 use Rattle.smbd_cli.proofs.Resting.{requests_snoc, goes_nowhere, goes_further}

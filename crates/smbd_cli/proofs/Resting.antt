@@ -12,7 +12,7 @@ use Rattle.smbd_base.specs.History.{submit_fault, messages_submitted}
 use Rattle.smbd_base.specs.Delivery.{messages_delivered}
 use Rattle.connection_core.specs.Shown.{Shown}
 use Rattle.smbd_cli.specs.Carried.{with_past}
-use Rattle.smbd_cli.specs.FileMessages.{reply_for, write_reply, end_reply}
+use Rattle.smbd_cli.specs.Requests.{reply_for, write_reply, end_reply}
 use Rattle.smbd_cli.specs.Put.{AreRequests, AreAtRest, ArePair, HasCalled, with_submitted}
 use Rattle.smbd_cli.proofs.Following.{follows_further}
 use Rattle.smbd_cli.specs.Settled.{GoesOn, pieces_of_all, IsSettled, IsBeside, AreBeside, FitsPut, AllFitPut, HasSent, CanSend, HasSentOne}

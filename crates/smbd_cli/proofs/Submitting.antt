@@ -8,7 +8,7 @@ use Rattle.smbd_base.specs.declared.event.Event.TheVariants.{Submit}
 use Rattle.smbd_base.specs.Limits.{usual_limits}
 use Rattle.smbd_base.specs.History.{submit_fault}
 use Rattle.connection_core.specs.Shown.{Shown}
-use Rattle.smbd_cli.specs.FileMessages.{write_request, end_request}
+use Rattle.smbd_cli.specs.Requests.{write_request, end_request}
 use Rattle.smbd_cli.specs.Put.{AreRequests, with_submitted, writes_at}
 use Rattle.smbd_cli.specs.PutRun.{groups_from, groups_count, write_of}
 use Rattle.smbd_cli.specs.Settled.{IsSettled, FitsPut, AllFitPut}

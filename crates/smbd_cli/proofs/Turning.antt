@@ -18,7 +18,7 @@ use Rattle.smbd_outside.specs.Streams.{AppendsFront}
 use Rattle.connection_core.specs.Shown.{Shown}
 use Rattle.run_log.specs.declared.telling.Told.{Told}
 use Rattle.smbd_cli.specs.Carried.{opened, usual_request, usual_response, with_past, agreed_client, agreed_server}
-use Rattle.smbd_cli.specs.FileMessages.{reply_for}
+use Rattle.smbd_cli.specs.Requests.{reply_for}
 use Rattle.run_log.specs.NewLines.{told_after, told_of}
 use Rattle.run_log.specs.RunLines.{event_line}
 use Rattle.run_log.proofs.Tellable.{taken_few}

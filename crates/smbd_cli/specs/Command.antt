@@ -8,8 +8,8 @@ use Rattle.smbd_cli.specs.declared.options.CopyCommand.TheVariants.{Copy}
 use Rattle.smbd_cli.specs.declared.options.Command.{Command}
 use Rattle.smbd_cli.specs.declared.options.Command.TheVariants as commands
 use Rattle.smbd_cli.specs.declared.options.Plain.TheVariants.{Sim}
-use Rattle.smbd_cli.specs.declared.options.CopyKind.TheVariants as kinds
-use Rattle.smbd_cli.specs.declared.options.Channel.TheVariants as channels
+use Rattle.file_messages.specs.declared.kind.CopyKind.TheVariants as kinds
+use Rattle.file_messages.specs.declared.kind.Channel.TheVariants as channels
 
 -- the copies that are built: a put without registered pages, by one worker, of the usual limits, with no cut
 abbrev pub plain_put : CopyCommand

@@ -1,7 +1,6 @@
 pub mod Carried
 pub mod Command
 pub mod Ends
-pub mod FileMessages
 pub mod Input
 pub mod LogText
 pub mod Plain
@@ -9,5 +8,6 @@ pub mod Progress
 pub mod Promise
 pub mod Put
 pub mod PutRun
+pub mod Requests
 pub mod Settled
 pub mod Telling

@@ -9,7 +9,7 @@ use Rattle.smbd_base.specs.Counts.{receives_grantable}
 use Rattle.smbd_base.specs.History.{messages_submitted}
 use Rattle.smbd_base.specs.Delivery.{messages_delivered}
 use Rattle.connection_core.specs.Shown.{Shown}
-use Rattle.smbd_cli.specs.FileMessages.{reply_for, carried_by}
+use Rattle.smbd_cli.specs.Requests.{reply_for, carried_by}
 use Rattle.smbd_cli.specs.PutRun.{groups_from, groups_count, write_of, put_requests, RepliesFollow}
 use Rattle.smbd_cli.specs.Settled.{AreBeside, HasSent, GoesOn}
 

@@ -5,7 +5,7 @@ use Rattle.smbd_base.specs.declared.event.Event.{Event}
 use Rattle.smbd_base.specs.Limits.{usual_limits}
 use Rattle.smbd_base.specs.History.{messages_submitted}
 use Rattle.smbd_base.specs.Delivery.{messages_delivered}
-use Rattle.smbd_cli.specs.FileMessages.{write_request, end_request, write_reply, end_reply}
+use Rattle.smbd_cli.specs.Requests.{write_request, end_request, write_reply, end_reply}
 
 -- a part of the bytes that one request carries: its number, from 1, and how many bytes stand before it
 pub record Group : Type 0 where

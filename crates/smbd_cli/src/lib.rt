@@ -3,17 +3,18 @@
 
 mod copy;
 mod exchange;
-mod file_messages;
 mod input;
 mod options;
 mod plain;
 mod program;
 mod put;
+mod requests;
 mod telling;
 mod words;
 
 pub use copy::run_copy;
-pub use options::{Channel, Command, CopyCommand, CopyKind, CopyOptions, Plain};
+pub use file_messages::{Channel, CopyKind};
+pub use options::{Command, CopyCommand, CopyOptions, Plain};
 pub use plain::run_plain;
 pub use program::run;
 pub use words::Word;

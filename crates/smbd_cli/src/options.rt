@@ -1,21 +1,7 @@
 //! What a copy is asked to do.
 
+use file_messages::{Channel, CopyKind};
 use smbd_base::EndLimits;
-
-/// Which way the bytes go: from the client to the server, or back.
-#[derive(Clone, Copy, Debug, PartialEq, Eq)]
-pub enum CopyKind {
-    Put,
-    Get,
-}
-
-/// How the bytes travel: in the requests and replies themselves, or through registered pages by RDMA
-/// (SMB2_CHANNEL_NONE and SMB2_CHANNEL_RDMA_V1 of MS-SMB2).
-#[derive(Clone, Copy, Debug, PartialEq, Eq)]
-pub enum Channel {
-    None,
-    V1,
-}
 
 /// How a copy is made.
 #[derive(Clone, Copy, Debug, PartialEq, Eq)]

@@ -14,7 +14,7 @@ ghost use Rattle.smbd_cli.specs.Settled.{IsSettled, GoesOn};
 ghost use Rattle.smbd_cli.specs.Put.{ArePair, AreRequests, HasCaughtUp, HasCalled, HasPut, Waits, stored_by, with_submitted, writes_at};
 
 use crate::exchange::{send, submit};
-use crate::file_messages::{answer, carried_by, end_request, write_request};
+use crate::requests::{answer, carried_by, end_request, write_request};
 use smbd_base::{EndId, Message, NoMemory};
 use smbd_outside::{Failed, Sink, write_whole};
 use std::alloc::Global;

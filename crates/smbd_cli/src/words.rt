@@ -4,7 +4,8 @@ ghost use Rattle.std.specs.Prelude.{◌≡◌, nat_eq, IfOk};
 ghost use lib.Pointwise.{pointwise};
 ghost use Rattle.smbd_cli.specs.Command as spec;
 
-use crate::options::{Channel, Command, CopyCommand, CopyKind, CopyOptions, Plain};
+use crate::options::{Command, CopyCommand, CopyOptions, Plain};
+use file_messages::{Channel, CopyKind};
 use event_log::number_in;
 use smbd_base::{EndLimits, NoMemory};
 use std::alloc::Global;

@@ -2,7 +2,7 @@
 //! sends a WRITE for each group of bytes, and then END; the server replies to each.
 
 ghost use Rattle.std.specs.Prelude.{◌≡◌, ◌≤◌, ◌<◌, ◌^◌, length, IfOk};
-ghost use Rattle.smbd_cli.specs.FileMessages as spec;
+ghost use Rattle.smbd_cli.specs.Requests as spec;
 
 use smbd_base::{Message, NoMemory, u16_at, u32_at};
 use std::alloc::Global;
