@@ -5,8 +5,8 @@ ghost use lib.Pointwise.{pointwise};
 ghost use Rattle.smbd_cli.specs.Command as spec;
 
 use crate::options::{Command, CopyCommand, CopyOptions, Plain};
-use file_messages::{Channel, CopyKind};
 use event_log::number_in;
+use file_messages::{Channel, CopyKind};
 use smbd_base::{EndLimits, NoMemory};
 use std::alloc::Global;
 use std::marker::Model;
