@@ -69,7 +69,7 @@ impl End {
             alloc,
             track: Track::open(alloc, side, limits)?,
             outgoing: Outgoing::new(alloc),
-            gather: Gather::open(alloc, limits.fragmented_size())?,
+            gather: Gather::open(alloc, limits.fragmented_size()),
             prepared: None,
         })
     }

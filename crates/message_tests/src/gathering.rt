@@ -90,7 +90,7 @@ fn follow(rt: &impl Abort, alloc: Global, name: &str, max: u32, steps: &[Step<'_
     requires least { 131072 ≤ max }
     requires most { max ≤ 1048576 }
 {
-    let mut gather = Gather::open(alloc, max).expect(rt, MEMORY);
+    let mut gather = Gather::open(alloc, max);
     assert_eq!(rt; gather.left(), 0);
     for step in steps {
         let piece = bytes_of(rt, alloc, &[step.piece]);

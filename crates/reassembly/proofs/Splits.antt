@@ -1,10 +1,9 @@
 -- What is gathered of pieces that are not refused is what they split into.
 use Rattle.std.proofs.Common.{◌≡◌, ◌⊎◌, inl, inr, ℕ, ◌+◌, ◌<◌, ◌≤◌, List, [], ◌∷◌, ◌++◌, length, None, Option, option_to_list, refl, ap, subst, sym, ◌∙◌, append-nil, append_assoc, arith}
-use Rattle.std.specs.List.{flat_map}
 use Rattle.std.proofs.lemmas.Bool.{cases_lt}
 use Rattle.std.proofs.lemmas.List.{length-append, map-append}
 use Rattle.std.proofs.lemmas.List.Concat.{flat_map-append}
-use Rattle.smbd_base.specs.Pieces.{Piece, joined, IsRun, IsWhole, AreWhole, IsRest, SplitsInto}
+use Rattle.smbd_base.specs.Pieces.{Piece, joined, IsRun, IsRest, SplitsInto}
 use Rattle.smbd_base.proofs.RunLemmas.{pieces_in, joined-more, run_more, rest_more, whole_more}
 use Rattle.reassembly.specs.Gathering.{Gathering, GathersWhatSplits, AreAccepted, opened, messages_gathered, gathered_so, piece_fault, message_of, with_accepted}
 use Rattle.reassembly.proofs.Accepted.{fits_begun, accepted-fits, message_of-more, message_of-last, with_accepted-more, with_accepted-last}

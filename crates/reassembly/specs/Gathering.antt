@@ -14,9 +14,9 @@ pub record Gathering : Type 0 where
   pub expected : ℕ
   pub broken : Option Broken
 
--- what is begun and what is expected fit the buffer, and where nothing is expected nothing is begun
+-- there is room for what is expected, what is begun is not too long, and where nothing is expected nothing is begun
 pub record IsGathering (max : ℕ) (begun : List ℕ) (expected capacity : ℕ) : Type 0 where
-  pub room : max ≤ capacity
+  pub room : length begun + expected ≤ capacity
   pub fits : length begun + expected ≤ max
   pub idle : expected ≡ 0 → begun ≡ []
 

@@ -2,7 +2,7 @@
 
 ghost use Rattle.std.specs.Prelude.{◌≡◌};
 
-use smbd_base::{Broken, NoMemory};
+use smbd_base::Broken;
 use std::alloc::AllocError;
 use thiserror::Error;
 
@@ -30,16 +30,6 @@ impl From<AllocError> for GatherFault {
     ghost from_gives = { λ _ e. e ≡ faults.NoMemory };
 
     fn from(_refused: AllocError) -> GatherFault {
-        GatherFault::NoMemory
-    }
-}
-
-impl From<NoMemory> for GatherFault {
-    ghost use Rattle.reassembly.specs.declared.fault.GatherFault.TheVariants as faults;
-
-    ghost from_gives = { λ _ e. e ≡ faults.NoMemory };
-
-    fn from(_refused: NoMemory) -> GatherFault {
         GatherFault::NoMemory
     }
 }

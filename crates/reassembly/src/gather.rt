@@ -1,13 +1,14 @@
 //! The gatherer of one message after another.
 
-ghost use Rattle.std.specs.Prelude.{◌≡◌, ◌<◌, ◌≤◌, ◌++◌, None, length, IfOk, IfErr, OnOk};
+ghost use Rattle.std.specs.Prelude.{◌≡◌, ◌<◌, ◌≤◌, None, length, IfOk, IfErr, OnOk};
 ghost use Rattle.smbd_base.specs.Pieces.{gather_fault};
 ghost use Rattle.reassembly.specs.Gathering.{opened, piece_of, piece_fault, with_accepted, message_of, IsRefused};
 
 use crate::fault::GatherFault;
-use smbd_base::{Broken, Message, NoMemory};
+use smbd_base::{Broken, Message};
 use std::alloc::Global;
 use std::marker::Model;
+use std::mem::replace;
 
 /// Gathers pieces into messages. Contracts see the most bytes of a message, the bytes that have come of the one that is
 /// begun, how many are still expected of it, and why the gatherer has failed, where it has.
@@ -32,31 +33,31 @@ impl Model for Gather {
 }
 
 impl Gather {
-    /// A gatherer of messages of at most `max` bytes, for which it reserves the room. Nothing is begun.
-    pub fn open(alloc: Global, max: u32) -> Result<Gather, NoMemory>
+    /// A gatherer of messages of at most `max` bytes. Nothing is begun.
+    pub fn open(alloc: Global, max: u32) -> Gather
         requires least { 131072 ≤ max }
         requires most { max ≤ 1048576 }
-        ensures { IfOk result (λ g. g ≡ opened max) }
+        ensures { result ≡ opened max }
     {
-        Ok(Gather {
+        Gather {
             alloc,
             max,
-            buffer: Vec::with_capacity(alloc, max as usize)?,
+            buffer: Vec::new(alloc),
             left: 0,
             broken: None,
-        })
+        }
     }
 
     /// Takes the next piece, after which `remaining` bytes of its message come, and gives the message where it ends one:
     /// just where nothing remains. A piece that does not fit is refused, and then every later one for the same. Only a piece
-    /// that ends a message can be refused for want of memory, which changes nothing.
+    /// that begins a message can be refused for want of memory, which changes nothing.
     pub fn add(&mut self, bytes: &[u8], remaining: u32) -> Result<Option<Message>, GatherFault>
         requires { 0 < length bytes.now }
         ensures accepted { OnOk result (piece_fault self.old (piece_of bytes.now remaining) ≡ None) }
         ensures message { IfOk result (λ m. m ≡ message_of self.old (piece_of bytes.now remaining)) }
         ensures added { OnOk result (self.new ≡ with_accepted self.old (piece_of bytes.now remaining)) }
         ensures refused { IfErr result (λ fault. IsRefused self.old (piece_of bytes.now remaining) fault self.new) }
-        ensures memory { IfErr result (λ fault. fault ≡ GatherFault.NoMemory → remaining ≡ 0) }
+        ensures memory { IfErr result (λ fault. fault ≡ GatherFault.NoMemory → self.old.expected ≡ 0) }
     {
         if let Some(broken) = self.broken {
             return Err(GatherFault::Failed(broken));
@@ -65,15 +66,15 @@ impl Gather {
             self.broken = Some(broken);
             return Err(GatherFault::from(broken));
         }
+        // The first piece tells the length of its whole message. For a later one the room is there.
+        self.buffer.reserve_exact(bytes.len() + remaining as usize)?;
+        self.buffer.extend_from_slice(bytes)?;
+        self.left = remaining as u64;
         if remaining > 0 {
-            self.buffer.extend_from_slice(bytes)?;
-            self.left = remaining as u64;
             return Ok(None);
         }
-        let message = joined(self.alloc, &self.buffer, bytes)?;
-        self.buffer.clear();
-        self.left = 0;
-        Ok(Some(message))
+        let whole = replace(&mut self.buffer, Vec::new(self.alloc));
+        Ok(Some(Message::owned(whole)))
     }
 
     /// Why a piece would be refused, where no earlier one was.
@@ -100,15 +101,4 @@ impl Gather {
     {
         self.left
     }
-}
-
-/// The message of these bytes and these after them.
-fn joined(alloc: Global, begun: &[u8], last: &[u8]) -> Result<Message, GatherFault>
-    ensures message { IfOk result (λ m. m ≡ begun.now ++ last.now) }
-    ensures refused { IfErr result (λ fault. fault ≡ GatherFault.NoMemory) }
-{
-    let mut bytes = Vec::with_capacity(alloc, begun.len() + last.len())?;
-    bytes.extend_from_slice(begun)?;
-    bytes.extend_from_slice(last)?;
-    Ok(Message::of_bytes(bytes)?)
 }

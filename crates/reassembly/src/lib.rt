@@ -1,7 +1,7 @@
 //! Gathering the pieces that data transfer messages carry into messages (MS-SMBD 3.1.5.8).
 //!
-//! How pieces make messages, and why a piece does not fit, are definitions of `smbd_base`. A gatherer reserves its
-//! buffer when it is opened; after that only the message that it hands out takes memory.
+//! How pieces make messages, and why a piece does not fit, are definitions of `smbd_base`. The first piece of
+//! a message tells its whole length: a gatherer reserves so much then, and hands out that buffer as the message.
 #![tactic(auto)]
 
 mod fault;
