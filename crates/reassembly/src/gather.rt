@@ -1,6 +1,7 @@
 //! The gatherer of one message after another.
 
 ghost use Rattle.std.specs.Prelude.{◌≡◌, ◌<◌, ◌≤◌, None, length, IfOk, IfErr, OnOk};
+ghost use Rattle.smbd_base.specs.declared.limits.TheConstants.{LEAST_FRAGMENTED_SIZE, MOST_FRAGMENTED_SIZE};
 ghost use Rattle.smbd_base.specs.Pieces.{gather_fault};
 ghost use Rattle.reassembly.specs.Gathering.{opened, piece_of, piece_fault, with_accepted, message_of, IsRefused};
 
@@ -35,8 +36,8 @@ impl Model for Gather {
 impl Gather {
     /// A gatherer of messages of at most `max` bytes. Nothing is begun.
     pub fn open(alloc: Global, max: u32) -> Gather
-        requires least { 131072 ≤ max }
-        requires most { max ≤ 1048576 }
+        requires least { LEAST_FRAGMENTED_SIZE ≤ max }
+        requires most { max ≤ MOST_FRAGMENTED_SIZE }
         ensures { result ≡ opened max }
     {
         Gather {
