@@ -17,7 +17,7 @@ pieces_of-nil size wide =
     ap (λ (n : ℕ). n / size) (let is : 0 + size - 1 ≡ 0 * size + (size - 1) = omega arith in is) ∙ div-mul-add 0 size (size - 1) (omega arith) in
     rw none refl
 
--- ---- a message that is cut
+-- ---- a message that is divided
 
 -- where the next piece stands, where bytes are left
 abbrev pub place_of : Cutting → Place

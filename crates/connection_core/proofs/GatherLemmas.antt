@@ -1,5 +1,5 @@
 -- What a taken frame does to the gatherer.
-use Rattle.std.proofs.Common.{◌≡◌, ℕ, ◌==◌, nat_lt, Bool, true, false, not, ◌&&◌, cond, List, ◌∷◌, length, Option, Some, None, is_none, Result, Ok, Err, refl, sym, ap, ◌∙◌}
+use Rattle.std.proofs.Common.{◌≡◌, ℕ, ◌==◌, nat_lt, Bool, true, false, not, ◌&&◌, cond, List, ◌∷◌, length, Option, Some, None, is_none, Result, Ok, Err, refl, ap, ◌∙◌}
 use Rattle.smbd_base.specs.declared.end_id.EndId.{EndId}
 use Rattle.smbd_base.specs.declared.event.Event.{Event}
 use Rattle.smbd_base.specs.declared.event.Event.TheVariants.{Take}
@@ -97,17 +97,3 @@ brought-is side limits past frame e heard =
     let counts : (not (is_unheard past) && is_none (take_fault side limits past frame)) ≡ true = rw (heard, e) refl in
     ap (λ (b : Bool). message_ended (gathered side limits past) (cond b (piece_in (data_frame_of frame)) None)) counts
     ∙ ends limits.fragmented_size (bytes_expected side limits past) (gathered side limits past) (data_frame_of frame)
-
--- ---- the same of the bytes and the gatherer at hand
-
-pub fits-at : (side : EndId) (limits : Limits) (past : List Event) (frame bytes : List ℕ) (g : Gathering) → g ≡ gatherer_of side limits past → bytes ≡ frame
-    → take_fault side limits past frame ≡ None → is_unheard past ≡ false → data_fault g.max g.expected (data_frame_of bytes) ≡ None
-fits-at side limits past frame bytes g g_is bytes_is e heard = rw (g_is, bytes_is) (accepted_data side limits past frame e heard)
-
-pub added-at : (side : EndId) (limits : Limits) (past : List Event) (frame bytes : List ℕ) (g : Gathering) → g ≡ gatherer_of side limits past → bytes ≡ frame
-    → take_fault side limits past frame ≡ None → is_unheard past ≡ false → gatherer_with g (data_frame_of bytes) ≡ gatherer_of side limits (Take frame ∷ past)
-added-at side limits past frame bytes g g_is bytes_is e heard = rw (g_is, bytes_is) (sym (gatherer-added side limits past frame e heard))
-
-pub brought-at : (side : EndId) (limits : Limits) (past : List Event) (frame bytes : List ℕ) (g : Gathering) → g ≡ gatherer_of side limits past → bytes ≡ frame
-    → take_fault side limits past frame ≡ None → is_unheard past ≡ false → message_in g (data_frame_of bytes) ≡ message_brought side limits past frame
-brought-at side limits past frame bytes g g_is bytes_is e heard = rw (g_is, bytes_is) (sym (brought-is side limits past frame e heard))

@@ -257,7 +257,7 @@ started-under_way size [] wide s = tt
 started-under_way size (m ∷ later) wide s =
     (record { size_is = refl; some = wide; short = s.0.short; left = s.0.some }, started-under_way size later wide s.1)
 
--- once they may be cut, they are what is still to be sent
+-- once they may be divided, they are what is still to be sent
 pub IsQueue-agreed : (size : ℕ) (past : List Event) (q : Queued) → 0 < size → AreWaiting past q → IsQueue size past (to_cut size q)
 IsQueue-agreed size past q wide w =
     let cuts : to_cut size q ≡ map (started size) (messages_submitted past) =

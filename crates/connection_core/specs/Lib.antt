@@ -1,5 +1,6 @@
 pub mod Answered
 pub mod Gatherer
+pub mod Heard
 pub mod Holds
 pub mod Keeps
 pub mod Ledgered

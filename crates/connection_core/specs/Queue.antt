@@ -9,13 +9,13 @@ use Rattle.smbd_base.specs.Pieces.{Piece, pieces_of}
 use Rattle.smbd_base.specs.History.{messages_submitted, payload_size, pieces_sent, is_agreed}
 use Rattle.fragmenter.specs.Cut.{Cutting, pieces_left, advanced}
 
--- ---- messages that are cut into pieces of one size
+-- ---- messages that are divided into pieces of one size
 
 -- a message of which no piece was given
 abbrev pub started : ℕ → List ℕ → Cutting
 started size message = record { message = message; size = size; given = 0 }
 
--- a message that is cut into pieces of this size, and of which bytes are left
+-- a message that is divided into pieces of this size, and of which bytes are left
 pub record IsUnderWay (size : ℕ) (cut : Cutting) : Type 0 where
   pub size_is : cut.size ≡ size
   pub some : 0 < cut.size
@@ -43,7 +43,7 @@ after_piece (cut ∷ later) = if length cut.message - (advanced cut).given == 0 
 
 -- ---- what an end keeps of them
 
--- the message that is being cut, where one is, and those behind it, of which no piece was given
+-- the message that is being divided, where one is, and those behind it, of which no piece was given
 pub record Queued : Type 0 where
   pub begun : Option Cutting
   pub behind : List (List ℕ)
@@ -78,7 +78,7 @@ begin_behind size (Some cut) behind = record { begun = Some cut; behind = behind
 abbrev pub begun_with : ℕ → Queued → Queued
 begun_with size q = begin_behind size q.begun q.behind
 
--- what is left of the message that is being cut, once its next piece was sent
+-- what is left of the message that is being divided, once its next piece was sent
 abbrev pub cut_after : Option Cutting → Option Cutting
 cut_after None = None
 cut_after (Some cut) = if length cut.message - (advanced cut).given == 0 then None else Some (advanced cut)

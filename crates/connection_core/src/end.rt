@@ -10,10 +10,12 @@ ghost use Rattle.smbd_base.specs.History as spec;
 ghost use Rattle.smbd_base.specs.Limits.{IsLawful};
 ghost use Rattle.smbd_base.specs.Counts.{is_silent};
 ghost use Rattle.connection_core.specs.Gatherer.{gatherer_of};
+ghost use Rattle.connection_core.specs.Heard.{IsHeard};
 ghost use Rattle.connection_core.specs.Queue.{begun_by, sent_from, with_message, IsSendable};
 ghost use Rattle.connection_core.specs.Answered.{IsSubmitFault, IsTakeRefused};
 
 use crate::frames;
+use crate::heard::Heard;
 use crate::outgoing::Outgoing;
 use crate::refused::{SubmitRefused, TakeRefused};
 use crate::track::Track;
@@ -26,6 +28,14 @@ use std::marker::Model;
 
 /// One end of an SMB Direct connection (MS-SMBD 3.1). Contracts see its side, its limits, its past, the newest event
 /// first, and the event that is prepared.
+///
+/// The calls, and their order:
+/// - `open_client` or `open_server` first;
+/// - `submit` at any time;
+/// - `next`, and `commit` after it where it answered a Post or an Emit: no other call that changes the end comes between;
+/// - `take` of the peer's next frame, where `ready`;
+/// - `cut` at any time, and where `next` answers Close: nothing follows it;
+/// - the readers (`agreed`, `held`, `outstanding`, `grantable`, `history`, `is_cut`) at any time.
 #[derive(Drop)]
 pub struct End {
     alloc: Global,
@@ -155,10 +165,14 @@ impl End {
         ensures returned { IfErr result (λ r. r.frame ≡ frame) }
         ensures legal { spec.IsLegal self.new.side self.new.limits self.new.past }
     {
-        match self.track.take_fault(&frame, &self.gather) {
-            None => match brought(&mut self.track, &mut self.gather, &frame) {
+        let heard = self.track.hear(&frame);
+        let refusal = self.track.take_fault(&frame, &heard, &self.gather);
+        let peer = self.track.peer_after(&frame, &heard, refusal.is_some());
+        let asks = frames::asks(&heard);
+        match refusal {
+            None => match brought(&mut self.track, &mut self.gather, &frame, &heard) {
                 Ok(message) => {
-                    self.track.add_take(frame, None);
+                    self.track.add_take(frame, None, peer, asks);
                     begin_next(&self.track, &mut self.outgoing);
                     self.prepared = None;
                     Ok(message)
@@ -167,7 +181,7 @@ impl End {
             },
             Some(fault) => match copied(&mut self.track, &frame) {
                 Ok(copy) => {
-                    self.track.add_take(frame, Some(fault));
+                    self.track.add_take(frame, Some(fault), peer, asks);
                     self.prepared = None;
                     Err(TakeRefused { fault, frame: copy })
                 }
@@ -187,6 +201,13 @@ impl End {
         }
         self.track.add_cut();
         self.prepared = None;
+    }
+
+    /// Whether the end is cut.
+    pub fn is_cut(&self) -> bool
+        ensures { result ≡ spec.is_cut self.now.past }
+    {
+        self.track.is_cut()
     }
 
     /// What the negotiation has settled: a client is agreed once it has taken the response, and a server once it has
@@ -228,7 +249,7 @@ impl End {
     }
 }
 
-/// Keeps a copy of a message that was accepted, to be cut and sent, with room for its Submit and for a Cut.
+/// Keeps a copy of a message that was accepted, to be divided and sent, with room for its Submit and for a Cut.
 fn keep(track: &mut Track, outgoing: &mut Outgoing, message: &Message) -> Result<(), NoMemory>
     requires { IsSendable message.now }
     ensures kept { OnOk result (outgoing.new ≡ with_message outgoing.old message.now) }
@@ -250,22 +271,24 @@ fn send_first(track: &Track, outgoing: &mut Outgoing)
     }
 }
 
-/// Begins to cut the next message, once the end is agreed.
+/// Begins to divide the next message, once the end is agreed.
 fn begin_next(track: &Track, outgoing: &mut Outgoing)
     ensures { outgoing.new ≡ begun_by (spec.agreed_of track.now.side track.now.limits track.now.past) outgoing.old }
 {
     if let Some(agreed) = track.agreed() {
-        outgoing.begin(agreed.send_size - frames::HEADER_SIZE);
+        outgoing.begin(agreed.send_size - frames::HEADER_SIZE as u32);
     }
 }
 
-/// The message that a frame ends that is not refused, with room for its Take and for a Cut. Its piece is then gathered.
+/// The message that a frame ends that says this and is not refused, with room for its Take and for a Cut. Its piece is then gathered.
 fn brought(
     track: &mut Track,
     gather: &mut Gather,
     frame: &Frame,
+    heard: &Heard,
 ) -> Result<Option<Message>, NoMemory>
     requires begun { gather.old ≡ gatherer_of track.old.side track.old.limits track.old.past }
+    requires heard { IsHeard track.old.side track.old.limits track.old.past frame.now heard.now }
     requires fault { spec.take_fault track.old.side track.old.limits track.old.past frame.now ≡ None }
     ensures message { IfOk result (λ m. m ≡ message_brought track.old.side track.old.limits track.old.past frame.now) }
     ensures added { OnOk result (gather.new ≡ gatherer_of track.old.side track.old.limits (events.Take frame.now ∷ track.old.past)) }
@@ -275,10 +298,7 @@ fn brought(
     ensures more { track.old.room ≤ track.new.room }
 {
     track.reserve(2)?;
-    if track.is_unheard() {
-        return Ok(None);
-    }
-    frames::gathered(frame.bytes(), gather)
+    frames::gathered(heard, gather)
 }
 
 /// A copy of a frame that is refused, with room for its Take and for a Cut.

@@ -1,33 +1,38 @@
 //! The bytes of the frames that an end sends, and what those that it takes say.
 
-ghost use Rattle.std.specs.Prelude.{◌≡◌, ◌≤◌, ◌++◌, None, Some, Ok, IfOk, IfErr, OnOk, OnErr};
-ghost use Rattle.smbd_base.specs.History.{negotiation_fault};
-ghost use Rattle.smbd_base.specs.DataFrame.{data_frame_of};
-ghost use Rattle.smbd_base.specs.History as spec;
-ghost use Rattle.smbd_base.specs.NegotiateMessages.{IsLawfulRequest, IsLawfulAgreement, agreed_with_client, answer_to, refusing_response, request_bytes, request_fault, request_of_limits, response_bytes, response_fault};
+ghost use Rattle.std.specs.Prelude.{◌≡◌, ◌≤◌, ◌++◌, None, IfOk, OnOk, OnErr};
+ghost use Rattle.smbd_base.specs.declared.end_id.EndId.TheVariants as side;
+ghost use Rattle.smbd_base.specs.Limits.{Limits};
+ghost use Rattle.smbd_base.specs.NegotiateMessages.{IsLawfulRequest, answer_to, refusing_response, request_bytes, request_of_limits, response_bytes};
 ghost use Rattle.negotiate_msg.specs.Shown.{shown_request, shown_response};
-ghost use Rattle.connection_core.specs.Gatherer.{gatherer_with, message_in};
-ghost use Rattle.connection_core.specs.Peers.{Says, SaysRequest, SaysResponse};
+ghost use Rattle.connection_core.specs.Heard.{asks_in, fault_in, gathered_with, message_heard, IsOpening};
 ghost use Rattle.transfer_msg.specs.Written.{header_text};
 
+use crate::heard::Heard;
 use crate::peer::Peer;
 use negotiate_msg::{
     NegotiateRequest, NegotiateResponse, answer, read_request, read_response, refusal, settle,
     write_request, write_response,
 };
 use reassembly::Gather;
-use smbd_base::{Agreed, EndId, EndLimits, Frame, Message, NegotiateFault, NoMemory, TakeFault};
+use smbd_base::{EndId, EndLimits, Frame, Message, NegotiateFault, NoMemory, TakeFault};
 use std::alloc::Global;
-use transfer_msg::{Header, read, write};
+use transfer_msg::{Header, write};
 
-/// The bytes before the payload of a data transfer message.
-pub const HEADER_SIZE: u32 = 24;
+/// The bytes of a negotiate request (MS-SMBD 2.2.1).
+const REQUEST_SIZE: usize = 20;
+
+/// The bytes of a negotiate response (MS-SMBD 2.2.2).
+const RESPONSE_SIZE: usize = 32;
+
+/// The bytes before the payload of a data transfer message (MS-SMBD 2.2.3).
+pub const HEADER_SIZE: usize = 24;
 
 /// The negotiate request of a client with these limits (MS-SMBD 2.2.1).
 pub fn request(alloc: Global, limits: &EndLimits) -> Result<Frame, NoMemory>
     ensures { IfOk result (λ f. f ≡ request_bytes (request_of_limits limits.now)) }
 {
-    let mut out = [0; 20];
+    let mut out = [0; REQUEST_SIZE];
     write_request(limits, &mut out);
     Frame::copy_of(alloc, &out)
 }
@@ -57,25 +62,14 @@ pub fn refusing(alloc: Global) -> Result<Frame, NoMemory>
 fn response_frame(alloc: Global, response: &NegotiateResponse) -> Result<Frame, NoMemory>
     ensures { IfOk result (λ f. f ≡ response_bytes (shown_response response.now)) }
 {
-    let mut out = [0; 32];
+    let mut out = [0; RESPONSE_SIZE];
     write_response(response, &mut out);
     Frame::copy_of(alloc, &out)
 }
 
-/// What a server with these limits has agreed with the client of this request, whatever it grants.
-pub fn agreed_with(request: &NegotiateRequest, limits: &EndLimits) -> Agreed
-    requires read { IsLawfulRequest (shown_request request.now) }
-    ensures agreed { result ≡ agreed_with_client limits.now (shown_request request.now) }
-    ensures lawful { IsLawfulAgreement result }
-{
-    answer(request, limits, limits.credits()).1
-}
-
 /// What the peer's negotiation message says to an end with these limits, or why it is refused.
-pub fn heard(bytes: &[u8], side: EndId, limits: &EndLimits) -> Result<Peer, NegotiateFault>
-    ensures accepted { OnOk result (negotiation_fault side limits.now bytes.now ≡ None) }
-    ensures says { IfOk result (λ peer. Says side limits.now bytes.now peer) }
-    ensures fault { IfErr result (λ fault. negotiation_fault side limits.now bytes.now ≡ Some fault) }
+pub fn opening(bytes: &[u8], side: EndId, limits: &EndLimits) -> Result<Peer, NegotiateFault>
+    ensures { IsOpening side limits.now bytes.now result }
 {
     match side {
         EndId::Client => response_heard(bytes, limits),
@@ -84,9 +78,7 @@ pub fn heard(bytes: &[u8], side: EndId, limits: &EndLimits) -> Result<Peer, Nego
 }
 
 fn response_heard(bytes: &[u8], limits: &EndLimits) -> Result<Peer, NegotiateFault>
-    ensures accepted { OnOk result (response_fault limits.now bytes.now ≡ None) }
-    ensures says { IfOk result (λ peer. SaysResponse limits.now bytes.now peer) }
-    ensures fault { IfErr result (λ fault. response_fault limits.now bytes.now ≡ Some fault) }
+    ensures { IsOpening side.Client limits.now bytes.now result }
 {
     match read_response(bytes, limits) {
         Ok(response) => Ok(Peer::Responds(settle(&response, limits))),
@@ -95,9 +87,7 @@ fn response_heard(bytes: &[u8], limits: &EndLimits) -> Result<Peer, NegotiateFau
 }
 
 fn request_heard(bytes: &[u8]) -> Result<Peer, NegotiateFault>
-    ensures accepted { OnOk result (request_fault bytes.now ≡ None) }
-    ensures says { IfOk result (λ peer. SaysRequest bytes.now peer) }
-    ensures fault { IfErr result (λ fault. request_fault bytes.now ≡ Some fault) }
+    ensures { (limits : Limits) → IsOpening side.Server limits bytes.now result }
 {
     match read_request(bytes) {
         Ok(request) => Ok(Peer::Requests(request)),
@@ -109,7 +99,7 @@ fn request_heard(bytes: &[u8]) -> Result<Peer, NegotiateFault>
 pub fn data_frame(alloc: Global, header: &Header, payload: &[u8]) -> Result<Frame, NoMemory>
     ensures { IfOk result (λ f. f ≡ header_text header.now ++ payload.now) }
 {
-    let mut head = [0; 24];
+    let mut head = [0; HEADER_SIZE];
     let length = write(&mut head, header);
     let mut bytes = Vec::with_capacity(alloc, length + payload.len())?;
     bytes.extend_from_slice(&head[..length])?;
@@ -117,40 +107,42 @@ pub fn data_frame(alloc: Global, header: &Header, payload: &[u8]) -> Result<Fram
     Frame::of_bytes(bytes)
 }
 
-/// Why a data transfer message is refused, if it is, while the gatherer stands so.
-pub fn data_fault(bytes: &[u8], gather: &Gather) -> Option<TakeFault>
-    ensures { result ≡ spec.data_fault gather.now.max gather.now.expected (data_frame_of bytes.now) }
+/// Why a frame is refused that came in turn and is not too long, if it is, while the gatherer stands so.
+pub fn fault(heard: &Heard, gather: &Gather) -> Option<TakeFault>
+    ensures { result ≡ fault_in gather.now.max gather.now.expected heard.now }
 {
-    match read(bytes) {
-        Err(fault) => Some(TakeFault::Frame(fault)),
-        Ok(view) if view.payload.is_empty() => None,
-        Ok(view) => gather
+    match heard {
+        Heard::Opening(Ok(_)) => None,
+        Heard::Opening(Err(fault)) => Some(TakeFault::Negotiate(*fault)),
+        Heard::Data(Err(fault)) => Some(TakeFault::Frame(*fault)),
+        Heard::Data(Ok(view)) if view.payload.is_empty() => None,
+        Heard::Data(Ok(view)) => gather
             .fault(view.payload, view.remaining)
             .map(TakeFault::Gather),
     }
 }
 
-/// Whether a data transfer message asks for a response.
-pub fn asks(bytes: &[u8]) -> bool
-    ensures { result ≡ spec.asks (data_frame_of bytes.now) }
+/// Whether a frame asks for a response.
+pub fn asks(heard: &Heard) -> bool
+    ensures { result ≡ asks_in heard.now }
 {
-    match read(bytes) {
-        Err(_) => false,
-        Ok(view) => view.flags % 2 == 1,
+    match heard {
+        Heard::Data(Ok(view)) => view.flags % 2 == 1,
+        Heard::Data(Err(_)) | Heard::Opening(_) => false,
     }
 }
 
-/// Gathers the piece of a data transfer message that is not refused, where it has one, and gives the message that it
-/// ends. Only memory can lack, and then nothing has changed.
-pub fn gathered(bytes: &[u8], gather: &mut Gather) -> Result<Option<Message>, NoMemory>
+/// Gathers the piece of a frame that is not refused, where it has one, and gives the message that it ends. Only memory can
+/// lack, and then nothing has changed.
+pub fn gathered(heard: &Heard, gather: &mut Gather) -> Result<Option<Message>, NoMemory>
     requires unbroken { gather.old.broken ≡ None }
-    requires fits { spec.data_fault gather.old.max gather.old.expected (data_frame_of bytes.now) ≡ None }
-    ensures message { IfOk result (λ m. m ≡ message_in gather.old (data_frame_of bytes.now)) }
-    ensures added { OnOk result (gather.new ≡ gatherer_with gather.old (data_frame_of bytes.now)) }
+    requires fits { fault_in gather.old.max gather.old.expected heard.now ≡ None }
+    ensures message { IfOk result (λ m. m ≡ message_heard gather.old heard.now) }
+    ensures added { OnOk result (gather.new ≡ gathered_with gather.old heard.now) }
     ensures same { OnErr result (gather.new ≡ gather.old) }
 {
-    match read(bytes) {
-        Ok(view) if !view.payload.is_empty() => {
+    match heard {
+        Heard::Data(Ok(view)) if !view.payload.is_empty() => {
             gather
                 .add(view.payload, view.remaining)
                 .map_err(|_| NoMemory)

@@ -7,6 +7,7 @@
 
 mod end;
 mod frames;
+mod heard;
 mod history;
 mod outgoing;
 mod peer;

@@ -9,7 +9,7 @@ use std::alloc::Global;
 use std::collections::VecDeque;
 use std::marker::Model;
 
-/// The message that is being cut into pieces, where one is, and those that wait behind it. A message is begun only once
+/// The message that is being divided into pieces, where one is, and those that wait behind it. A message is begun only once
 /// the size of its pieces is known.
 #[derive(Drop)]
 pub struct Outgoing {
@@ -51,7 +51,7 @@ impl Outgoing {
         !self.waiting.is_empty()
     }
 
-    /// The message that is being cut.
+    /// The message that is being divided.
     pub fn first(&self) -> Option<&Cutter>
         ensures { option_copied result ≡ self.now.begun }
     {
@@ -68,7 +68,7 @@ impl Outgoing {
         Ok(())
     }
 
-    /// Begins to cut the next message into pieces of `payload` bytes, where none is begun and one waits.
+    /// Begins to divide the next message into pieces of `payload` bytes, where none is begun and one waits.
     pub fn begin(&mut self, payload: u32)
         requires { 104 ≤ payload }
         ensures { self.new ≡ begun_with payload self.old }

@@ -5,25 +5,28 @@ ghost use Rattle.smbd_base.specs.declared.end_id.EndId.TheVariants as ends;
 ghost use Rattle.smbd_base.specs.declared.event.Event.TheVariants as events;
 ghost use Rattle.smbd_base.specs.declared.next.Next.TheVariants as due;
 ghost use Rattle.smbd_base.specs.Counts as count;
+ghost use Rattle.smbd_base.specs.DataFrame.{data_frame_of};
 ghost use Rattle.smbd_base.specs.Grant.{credits_in};
 ghost use Rattle.smbd_base.specs.History as spec;
 ghost use Rattle.smbd_base.specs.Limits.{IsLawful};
 ghost use Rattle.smbd_base.specs.NegotiateMessages.{IsLawfulAgreement};
 ghost use Rattle.credit_ledger.specs.Credits.{may_spend};
-ghost use Rattle.credit_ledger.specs.Recorded.{has_reason};
 ghost use Rattle.fragmenter.specs.Cut.{next_place, piece_at};
 ghost use Rattle.connection_core.specs.Gatherer.{gatherer_of};
+ghost use Rattle.connection_core.specs.Heard.{IsHeard};
 ghost use Rattle.connection_core.specs.Ledgered.{after_sending, after_taking};
 ghost use Rattle.connection_core.specs.Peers.{Knows};
 ghost use Rattle.connection_core.specs.Queue.{IsSendable, Queues};
 ghost use Rattle.connection_core.specs.Standing.{sent_standing, standing_of, taken_standing};
 
 use crate::frames;
+use crate::heard::Heard;
 use crate::history::History;
 use crate::outgoing::Outgoing;
 use crate::peer::Peer;
 use credit_ledger::Ledger;
 use fragmenter::{Cutter, Piece};
+use negotiate_msg::settle_with_client;
 use reassembly::Gather;
 use smbd_base::{
     Agreed, EndId, EndLimits, Event, Frame, Message, NegotiateFault, Next, NoMemory, SubmitFault,
@@ -31,7 +34,7 @@ use smbd_base::{
 };
 use std::alloc::Global;
 use std::marker::Model;
-use transfer_msg::Header;
+use transfer_msg::{Header, read};
 
 /// The bytes that every end gathers of a message (the least MaxFragmentedSize, MS-SMBD 3.1.1.1).
 const GATHERED_AT_LEAST: u32 = 131_072;
@@ -99,12 +102,6 @@ impl Track {
             post_due: false,
             response_owed: false,
         })
-    }
-
-    pub fn side(&self) -> EndId
-        ensures { result ≡ self.now.side }
-    {
-        self.side
     }
 
     pub fn held(&self) -> u16
@@ -182,7 +179,7 @@ impl Track {
         match &self.peer {
             Peer::Unheard => None,
             Peer::Refused => None,
-            Peer::Requests(request) => Some(frames::agreed_with(request, &self.limits)),
+            Peer::Requests(request) => Some(settle_with_client(request, &self.limits)),
             Peer::Responds(agreed) => Some(*agreed),
         }
     }
@@ -214,10 +211,22 @@ impl Track {
         }
     }
 
-    /// Why a frame is refused, if it is, by the gatherer of this past.
+    /// Reads a frame.
+    pub fn hear<'a>(&self, frame: &'a Frame) -> Heard<'a>
+        ensures { IsHeard self.now.side self.now.limits self.now.past frame.now result }
+    {
+        if self.is_unheard() {
+            Heard::Opening(frames::opening(frame.bytes(), self.side, &self.limits))
+        } else {
+            Heard::Data(read(frame.bytes()))
+        }
+    }
+
+    /// Why a frame that says this is refused, if it is, by the gatherer of this past.
     #[tactic(auto, unfolding(smbd_base::specs::History::take_fault, smbd_base::specs::History::fault_expecting))]
-    pub fn take_fault(&self, frame: &Frame, gather: &Gather) -> Option<TakeFault>
-        requires { gather.now ≡ gatherer_of self.now.side self.now.limits self.now.past }
+    pub fn take_fault(&self, frame: &Frame, heard: &Heard, gather: &Gather) -> Option<TakeFault>
+        requires begun { gather.now ≡ gatherer_of self.now.side self.now.limits self.now.past }
+        requires heard { IsHeard self.now.side self.now.limits self.now.past frame.now heard.now }
         ensures { result ≡ spec.take_fault self.now.side self.now.limits self.now.past frame.now }
     {
         if self.is_out_of_turn() {
@@ -231,13 +240,7 @@ impl Track {
                 limit,
             });
         }
-        if !self.is_unheard() {
-            return frames::data_fault(frame.bytes(), gather);
-        }
-        match frames::heard(frame.bytes(), self.side, &self.limits) {
-            Ok(_) => None,
-            Err(fault) => Some(TakeFault::Negotiate(fault)),
-        }
+        frames::fault(heard, gather)
     }
 
     /// The event that comes next, while these messages wait to be sent.
@@ -307,7 +310,7 @@ impl Track {
         requires queue { Queues self.now.side self.now.limits self.now.past outgoing.now }
         ensures { result ≡ spec.is_sending self.now.side self.now.limits self.now.past }
     {
-        self.is_agreed() && self.has_reason(!outgoing.is_empty())
+        self.is_agreed() && self.sends(!outgoing.is_empty())
     }
 
     fn is_agreed(&self) -> bool
@@ -322,7 +325,7 @@ impl Track {
     }
 
     /// Whether an agreed end sends, where a piece waits or none does.
-    fn has_reason(&self, waits: bool) -> bool
+    fn sends(&self, waits: bool) -> bool
         ensures { result ≡ spec.sends (count.credits_held self.now.side self.now.past) (count.receives_outstanding self.now.side self.now.past)
             (count.receives_grantable self.now.side self.now.past) waits (spec.is_response_owed self.now.past) }
     {
@@ -430,18 +433,20 @@ impl Track {
         }
     }
 
-    /// Adds the Take of a frame, which is refused for this fault or is not.
-    pub fn add_take(&mut self, frame: Frame, fault: Option<TakeFault>)
+    /// Adds the Take of a frame, which is refused for this fault or is not. It leaves this known of the peer, and asks for a
+    /// response or doesn't.
+    pub fn add_take(&mut self, frame: Frame, fault: Option<TakeFault>, peer: Peer, asks: bool)
         requires room { 0 < self.old.room }
         requires ready { spec.is_ready self.old.side self.old.limits self.old.past ≡ true }
         requires fault { fault ≡ spec.take_fault self.old.side self.old.limits self.old.past frame }
+        requires peer { Knows self.old.side self.old.limits (events.Take frame ∷ self.old.past) peer }
+        requires asks { asks ≡ (not (count.is_unheard self.old.past) && spec.asks (data_frame_of frame)) }
         ensures { self.new ≡ record self.old { past = events.Take frame ∷ self.old.past; room = self.old.room - 1 } }
     {
         let in_turn = !self.is_out_of_turn();
         let granted = self.grant_in(&frame);
         let standing = self.standing_after_taking(fault);
-        let peer = self.peer_after(&frame, fault.is_some());
-        let response_owed = self.response_owed_after(&frame);
+        let response_owed = self.response_owed_after(asks);
         self.history.push(Event::Take(frame));
         earn(&mut self.ledger, in_turn, granted);
         self.standing = standing;
@@ -473,27 +478,25 @@ impl Track {
         }
     }
 
-    /// What is known of the peer after a frame that is refused or is not.
-    fn peer_after(&self, frame: &Frame, refused: bool) -> Peer
-        requires { refused ≡ is_some (spec.take_fault self.now.side self.now.limits self.now.past frame.now) }
+    /// What is known of the peer after a frame that says this, and is refused or is not.
+    pub fn peer_after(&self, frame: &Frame, heard: &Heard, refused: bool) -> Peer
+        requires heard { IsHeard self.now.side self.now.limits self.now.past frame.now heard.now }
+        requires refused { refused ≡ is_some (spec.take_fault self.now.side self.now.limits self.now.past frame.now) }
         ensures { Knows self.now.side self.now.limits (events.Take frame.now ∷ self.now.past) result }
     {
-        if !self.is_unheard() {
-            return self.peer;
-        }
-        if refused {
-            return Peer::Refused;
-        }
-        match frames::heard(frame.bytes(), self.side, &self.limits) {
-            Ok(peer) => peer,
-            Err(_) => unreachable!(),
+        match heard {
+            Heard::Data(_) => self.peer,
+            Heard::Opening(_) if refused => Peer::Refused,
+            Heard::Opening(Ok(peer)) => *peer,
+            Heard::Opening(Err(_)) => unreachable!(),
         }
     }
 
-    fn response_owed_after(&self, frame: &Frame) -> bool
-        ensures { result ≡ spec.is_response_owed (events.Take frame.now ∷ self.now.past) }
+    /// Whether a response is owed after a frame that asks for one or doesn't.
+    fn response_owed_after(&self, asks: bool) -> bool
+        ensures { result ≡ (asks || spec.is_response_owed self.now.past) }
     {
-        (!self.is_unheard() && frames::asks(frame.bytes())) || self.response_owed
+        asks || self.response_owed
     }
 
     /// Adds the Cut of an end that is not cut.
@@ -532,7 +535,7 @@ fn earn(ledger: &mut Ledger, in_turn: bool, granted: u16)
     }
 }
 
-/// The bytes of a piece that the cutter gives.
+/// The bytes of a piece of the message that is divided.
 fn bytes_of<'a>(cutter: &'a Cutter, piece: &Piece) -> &'a [u8]
     requires { next_place cutter.now ≡ Some piece.now }
     ensures { result.now ≡ (piece_at cutter.now.message piece.now).payload }

@@ -35,7 +35,7 @@ pub fn answer(
         IsLawfulResponse client (shown_response result.0) }
     ensures lawful { IsLawfulAgreement result.1 }
 {
-    let send_size = own.send_size().min(request.max_receive_size);
+    let agreed = settle_with_client(request, own);
     let response = NegotiateResponse {
         min_version: VERSION,
         max_version: VERSION,
@@ -44,17 +44,28 @@ pub fn answer(
         credits_granted: request.credits_requested.min(grantable),
         status: SUCCESS,
         max_read_write_size: READ_WRITE_MAX,
-        preferred_send_size: send_size,
+        preferred_send_size: agreed.send_size,
         max_receive_size: own.receive_size(),
         max_fragmented_size: own.fragmented_size(),
     };
-    let agreed = Agreed {
-        send_size,
+    (response, agreed)
+}
+
+/// What a server with these limits has agreed with the client of the request (MS-SMBD 3.1.5.6), whatever it grants: it sends
+/// frames no longer than the smaller of its own preferred send size and the client's MaxReceiveSize.
+///
+/// The request was read by `read_request` without a fault.
+pub fn settle_with_client(request: &NegotiateRequest, own: &EndLimits) -> Agreed
+    requires read { IsLawfulRequest (shown_request request.now) }
+    ensures agreed { result ≡ agreed_with_client own.now (shown_request request.now) }
+    ensures lawful { IsLawfulAgreement result }
+{
+    Agreed {
+        send_size: own.send_size().min(request.max_receive_size),
         message_max: request.max_fragmented_size,
         read_write_max: None,
         credits_requested: request.credits_requested,
-    };
-    (response, agreed)
+    }
 }
 
 /// The response to a request of another version: Status is 0xC00000BB (STATUS_NOT_SUPPORTED), both versions are 0x0100,

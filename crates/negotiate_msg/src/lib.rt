@@ -12,7 +12,7 @@ mod request;
 mod response;
 mod writing;
 
-pub use answering::{answer, refusal, settle};
+pub use answering::{answer, refusal, settle, settle_with_client};
 pub use layout::{REQUEST_SIZE, RESPONSE_SIZE};
 pub use reading::{read_request, read_response};
 pub use request::NegotiateRequest;

@@ -14,4 +14,4 @@ pub invariant_of-self-in-Ok-copied : goal.invariant_of-self-in-Ok-copied
 invariant_of-self-in-Ok-copied c =
     let ready = subst (λ (s : Shown). is_ready s.side s.limits s.past ≡ true) (sym c.self.view_is) c.requires in
     Holds-refused c.self.inside.track c.copied.new.track c.add_take-in-Ok-copied.new.self c.self.inside.outgoing c.self.inside.gather c.self.inside.prepared
-    c.args.frame c.in-Some.fault c.self.invariant ready (sym c.take_fault.ensures ∙ c.in-Some.is) c.copied.ensures.track c.in-Ok-copied.ensures.room c.add_take-in-Ok-copied.ensures
+    c.args.frame c.in-Some.fault c.self.invariant ready (sym c.take_fault-refusal.ensures ∙ c.in-Some.is) c.copied.ensures.track c.in-Ok-copied.ensures.room c.add_take-in-Ok-copied.ensures

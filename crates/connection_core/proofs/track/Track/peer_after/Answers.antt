@@ -1,16 +1,20 @@
-use Rattle.std.proofs.Common.{◌≡◌, List, ℕ, Some, ap, sym, subst, ◌∙◌}
-use Rattle.smbd_base.specs.History.{negotiation_fault}
-use Rattle.connection_core.specs.Tracked.{Tracked}
+use Rattle.std.proofs.Common.{◌≡◌, Result, Err, ap, subst, ◌∙◌}
+use Rattle.smbd_base.specs.declared.faults.NegotiateFault.{NegotiateFault}
+use Rattle.connection_core.specs.Heard.{IsHeard}
+use Rattle.connection_core.specs.declared.heard.Heard.{Heard}
+use Rattle.connection_core.specs.declared.heard.Heard.TheVariants.{Opening}
+use Rattle.connection_core.specs.declared.peer.Peer.{Peer}
 use Rattle.connection_core.proofs.PeerLemmas.{first_refused}
 use Rattle.connection_core.proofs.track.Track.peer_after.Goals as goal
 
 pub unreachable-requires : goal.unreachable-requires
 unreachable-requires c =
     let t = c.args.self.now in
-    let fault : negotiation_fault t.side t.limits c.args.frame.now ≡ Some c.in-Err.field-0 =
-    ap (λ (bytes : List ℕ). negotiation_fault t.side t.limits bytes) (sym c.bytes.ensures)
-    ∙ subst (λ (v : Tracked). negotiation_fault v.side v.limits c.bytes.result.now ≡ Some c.in-Err.field-0) c.self.view_is c.in-Err.ensures.fault in
-    let refused = first_refused t.side t.limits t.past c.args.frame.now c.in-Err.field-0 (sym c.if-not-is_unheard.ensures) fault in
-    let is = c.requires in
+    let said : c.in-Opening-Err.field-0 ≡ Err c.in-Opening-Err.field-0-0 = rw c.in-Opening-Err.is at c.in-Opening-Err.field-0-is in
+    let is : c.args.heard.now ≡ Opening (Err c.in-Opening-Err.field-0-0) =
+    c.in-Opening-Err.is ∙ ap (λ (r : Result Peer NegotiateFault). Opening r) said in
+    let h = subst (λ (x : Heard). IsHeard t.side t.limits t.past c.args.frame.now x) is c.requires.heard in
+    let so = first_refused t.side t.limits t.past c.args.frame.now c.in-Opening-Err.field-0-0 h.0 h.1 in
+    let refused = c.requires.refused in
     let not_so = c.if-refused.false in
     cc
