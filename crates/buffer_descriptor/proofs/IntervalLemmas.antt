@@ -6,17 +6,17 @@ use Rattle.std.proofs.lemmas.List.Sums.{count_by_more_yes, count_by_more_no, sum
 use Rattle.std.proofs.lemmas.List.{get_or_default, take_all}
 use Rattle.std.proofs.lemmas.List.Sorted.{sum_by-IsPermutation}
 use Rattle.buffer_descriptor.specs.declared.descriptor.Descriptor.{Descriptor}
-use Rattle.buffer_descriptor.specs.Descriptors.{IsSound, IsCovered, IsByOffset, AreDisjoint, names, end_of}
+use Rattle.buffer_descriptor.specs.Descriptors.{IsSound, IsCovered, IsByOffset, AreDisjoint, names, place_after}
 
-pub names_to : (x : ℕ) (d : Descriptor) → names x d ≡ true → (d.offset ≤ x) × (x < end_of d)
+pub names_to : (x : ℕ) (d : Descriptor) → names x d ≡ true → (d.offset ≤ x) × (x < place_after d)
 names_to x d e =
     let h = and_parts _ _ e in
-    (leb-true d.offset x h.0, ltb-true x (end_of d) h.1)
+    (leb-true d.offset x h.0, ltb-true x (place_after d) h.1)
 
-pub names_from : (x : ℕ) (d : Descriptor) → d.offset ≤ x → x < end_of d → names x d ≡ true
-names_from x d begins ends = and_from _ _ (le-leb d.offset x begins) (lt-ltb x (end_of d) ends)
+pub names_from : (x : ℕ) (d : Descriptor) → d.offset ≤ x → x < place_after d → names x d ≡ true
+names_from x d begins ends = and_from _ _ (le-leb d.offset x begins) (lt-ltb x (place_after d) ends)
 
-pub names_not : (x : ℕ) (d : Descriptor) → (d.offset ≤ x → x < end_of d → ⊥) → names x d ≡ false
+pub names_not : (x : ℕ) (d : Descriptor) → (d.offset ≤ x → x < place_after d → ⊥) → names x d ≡ false
 names_not x d out = false_from_ne_true (names x d) (λ e. let h = names_to x d e in out h.0 h.1)
 
 -- a descriptor's interval lies in another just where each of its places does
@@ -39,9 +39,9 @@ covers_places b base len d sound ends = (
 -- of them that is not empty.
 pub record IsScanned (list : List Descriptor) (done : ℕ) (last : Descriptor) : Type 0 where
   pub ahead : (k : ℕ) (d : Descriptor) → done ≤ k → k < length list → last.offset ≤ (get_or list k d).offset
-  pub beyond : (x : ℕ) → end_of last ≤ x → count_by (names x) (take done list) ≡ 0
+  pub beyond : (x : ℕ) → place_after last ≤ x → count_by (names x) (take done list) ≡ 0
   pub single : (x : ℕ) → count_by (names x) (take done list) ≤ 1
-  pub inside : (x : ℕ) → last.offset ≤ x → x < end_of last → count_by (names x) (take done list) ≡ 1
+  pub inside : (x : ℕ) → last.offset ≤ x → x < place_after last → count_by (names x) (take done list) ≡ 1
 
 -- an empty descriptor changes nothing
 pub IsScanned-skip : (list : List Descriptor) (i : ℕ) (d last : Descriptor) → i < length list → (get_or list i d).length ≡ 0
@@ -58,7 +58,7 @@ IsScanned-skip list i d last below empty s =
 
 -- a descriptor that begins where the last one ends, or later, meets none of them
 pub IsScanned-more : (list : List Descriptor) (i : ℕ) (d last : Descriptor) → IsNonDecreasingBy (λ (e : Descriptor). e.offset) list
-    → i < length list → end_of last ≤ (get_or list i d).offset
+    → i < length list → place_after last ≤ (get_or list i d).offset
     → IsScanned list i last → IsScanned list (i + 1) (get_or list i d)
 IsScanned-more list i d last rising below apart s =
     let next = get_or list i d in
@@ -72,16 +72,16 @@ IsScanned-more list i d last rising below apart s =
       single = λ x. ⊎_elim
           (λ (before : x < next.offset). let h = s.single x in omega (arith, same x (names_not x next (λ a b. omega arith))))
           (λ (from : next.offset ≤ x). ⊎_elim
-          (λ (within : x < end_of next). omega (arith, more x (names_from x next from within), s.beyond x (omega arith)))
-          (λ (past : end_of next ≤ x). let h = s.single x in omega (arith, same x (names_not x next (λ a b. omega arith))))
-          (cases_lt x (end_of next)))
+          (λ (within : x < place_after next). omega (arith, more x (names_from x next from within), s.beyond x (omega arith)))
+          (λ (past : place_after next ≤ x). let h = s.single x in omega (arith, same x (names_not x next (λ a b. omega arith))))
+          (cases_lt x (place_after next)))
           (cases_lt x next.offset);
       inside = λ x a b. omega (arith, more x (names_from x next a b), s.beyond x (omega arith));
     }
 
 -- a descriptor that begins before the last one ends meets it
 pub IsScanned-meets : (list : List Descriptor) (i : ℕ) (d last : Descriptor) → i < length list → 0 < (get_or list i d).length
-    → (get_or list i d).offset < end_of last → IsScanned list i last → AreDisjoint list → ⊥
+    → (get_or list i d).offset < place_after last → IsScanned list i last → AreDisjoint list → ⊥
 IsScanned-meets list i d last below some meets s apart =
     let next = get_or list i d in
     let x = next.offset in

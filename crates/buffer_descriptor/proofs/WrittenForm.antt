@@ -2,7 +2,7 @@
 use Rattle.std.proofs.Common.{◌≡◌, ℕ, ◌+◌, ◌*◌, ◌-◌, ◌/◌, ◌%◌, ◌^◌, ◌<◌, ◌≤◌, List, length, refl, sym, subst, ◌∙◌, arith, Ok, lit≤}
 use Rattle.std.proofs.lemmas.Bool.{le-ltb, ne_eqb, cond-false}
 use Rattle.buffer_descriptor.specs.declared.descriptor.Descriptor.{Descriptor}
-use Rattle.buffer_descriptor.specs.Descriptors.{IsSound, descriptor_of, descriptor_bytes, fields_of, end_of}
+use Rattle.buffer_descriptor.specs.Descriptors.{IsSound, descriptor_of, descriptor_bytes, fields_of, place_after}
 
 four-digits : (n : ℕ) → n < 2 ^ 32 → n % 256 + 256 * (n / 256 % 256) + 65536 * (n / 65536 % 256) + 16777216 * (n / 16777216 % 256) ≡ n
 four-digits n low = omega arith
@@ -32,7 +32,7 @@ unfolding descriptor_of
 descriptor_of-fields bytes long s =
     let some = s.some in let within = s.within in
     cond-false _ _ _ (le-ltb (length bytes) 16 long)
-    ∙ cond-false _ _ _ (le-ltb (2 ^ 64 - 1) (end_of (fields_of bytes)) (omega arith))
+    ∙ cond-false _ _ _ (le-ltb (2 ^ 64 - 1) (place_after (fields_of bytes)) (omega arith))
     ∙ cond-false _ _ _ (ne_eqb (fields_of bytes).length 0 (λ none. omega arith))
 
 pub descriptor_of-descriptor_bytes : (d : Descriptor) → d.offset < 2 ^ 64 → d.token < 2 ^ 32 → d.length < 2 ^ 32 → IsSound d

@@ -11,13 +11,13 @@ use Rattle.buffer_descriptor.specs.declared.descriptors.ListFault.{ListFault}
 use Rattle.buffer_descriptor.specs.declared.descriptors.ListFault.TheVariants.{At, NoMemory}
 
 -- the place after a descriptor's last byte
-abbrev pub end_of : Descriptor → ℕ
-end_of d = d.offset + d.length
+abbrev pub place_after : Descriptor → ℕ
+place_after d = d.offset + d.length
 
 -- a descriptor names at least one byte, and its interval ends below 2^64
 pub record IsSound (d : Descriptor) : Type 0 where
   pub some : 1 ≤ d.length
-  pub within : end_of d < 2 ^ 64
+  pub within : place_after d < 2 ^ 64
 
 -- the fields that stand in the first 16 bytes
 abbrev pub fields_of : List ℕ → Descriptor
@@ -31,7 +31,7 @@ fields_of bytes = record {
 unfoldable pub descriptor_of : List ℕ → Result Descriptor DescriptorFault
 descriptor_of bytes =
     if nat_lt (length bytes) 16 then Err Short
-    else if nat_lt (2 ^ 64 - 1) (end_of (fields_of bytes)) then Err Wraps
+    else if nat_lt (2 ^ 64 - 1) (place_after (fields_of bytes)) then Err Wraps
     else if (fields_of bytes).length == 0 then Err Zero
     else Ok (fields_of bytes)
 
@@ -61,7 +61,7 @@ FailsAsList bytes count NoMemory = Unit {0}
 
 -- the byte place lies in the descriptor's interval
 abbrev pub names : ℕ → Descriptor → Bool
-names x d = nat_le d.offset x && nat_lt x (end_of d)
+names x d = nat_le d.offset x && nat_lt x (place_after d)
 
 -- each byte place lies in at most one of the descriptors of a list
 abbrev pub AreDisjoint : List Descriptor → Type 0
@@ -70,7 +70,7 @@ AreDisjoint list = (x : ℕ) → count_by (names x) list ≤ 1
 -- the descriptor's interval lies in the one from base up to, not including, base plus length
 pub record IsCovered (base len : ℕ) (d : Descriptor) : Type 0 where
   pub begins : base ≤ d.offset
-  pub ends : end_of d ≤ base + len
+  pub ends : place_after d ≤ base + len
 
 -- the same descriptors in the order of their offsets
 pub record IsByOffset (list by_offset : List Descriptor) : Type 0 where

@@ -15,7 +15,7 @@ use Rattle.smbd_base.specs.Counts.{receives_grantable, is_silent, is_unheard, is
 use Rattle.smbd_base.specs.DataFrame.{DataFrame, data_frame_of}
 use Rattle.smbd_base.specs.Limits.{Limits, IsLawful}
 use Rattle.smbd_base.specs.Pieces.{gather_fault}
-use Rattle.smbd_base.specs.History.{take_fault, fault_expecting, broken_fault, data_fault, negotiate_fault, negotiation_fault, bytes_expected, is_closed, is_cut, is_post_due, is_refused, is_version_fault, is_server, is_version_refused, is_welcomed, is_agreed, agreed_of, opening_frame, payload_size, settled, settled_by, IsLegal}
+use Rattle.smbd_base.specs.History.{take_fault, fault_expecting, broken_fault, data_fault, negotiate_fault, negotiation_fault, bytes_expected, is_closed, is_cut, is_post_due, is_refused, is_version_fault, is_server, is_version_refused, is_welcomed, is_agreed, agreed_of, negotiation_frame, payload_size, settled, settled_by, IsLegal}
 use Rattle.smbd_base.specs.NegotiateMessages.{Request, request_fault, request_fields, fault_in_request, response_bytes, response_fault, response_fields, fault_in_response, answer_to, refusing_response, IsLawfulAgreement}
 use Rattle.smbd_base.proofs.Inversion.{both, ready_parts}
 use Rattle.smbd_base.proofs.NegotiationLaws.{lawful_request, lawful_response, lawful_agreement_with_client, lawful_agreement_with_server}
@@ -175,7 +175,7 @@ unsettled side limits past w = rw w refl
 
 -- a server answers the request that it accepted
 pub opens-response : (side : EndId) (limits : Limits) (past : List Event) (request : NegotiateRequest) → HasHeard side limits past (Requests request)
-    → response_bytes (answer_to (shown_request request) limits (receives_grantable side past)) ≡ opening_frame side limits past
+    → response_bytes (answer_to (shown_request request) limits (receives_grantable side past)) ≡ negotiation_frame side limits past
 opens-response Client limits past request h = absurd h.says
 opens-response Server limits past request h =
     let none = welcomed_version Server limits past h.welcomed in
@@ -183,7 +183,7 @@ opens-response Server limits past request h =
 
 -- an end that goes on, though it refused the first frame, refuses a version
 pub opens-refusing : (side : EndId) (limits : Limits) (past : List Event) → IsLegal side limits past → HasRefused side limits past → is_closed side limits past ≡ false
-    → response_bytes refusing_response ≡ opening_frame side limits past
+    → response_bytes refusing_response ≡ negotiation_frame side limits past
 opens-refusing Client limits past legal h going =
     let version = going_version Client limits past going (unwelcome_refused Client limits past legal h.heard h.unwelcome) in
     let none = version_client limits past in

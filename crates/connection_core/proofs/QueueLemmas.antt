@@ -14,7 +14,7 @@ use Rattle.smbd_base.specs.Balance.{IsBalanced}
 use Rattle.smbd_base.specs.Counts.{credits_held, receives_grantable, is_silent, is_unheard}
 use Rattle.smbd_base.specs.DataFrame.{DataFrame, data_frame_of, frame_bytes}
 use Rattle.smbd_base.specs.Pieces.{Piece, pieces_of}
-use Rattle.smbd_base.specs.History.{messages_submitted, payload_size, peer_opening, pieces_sent, carries, data_frame_due, frame_due, next_event, take_fault, agreed_of, is_agreed, is_welcomed, settled, settled_by}
+use Rattle.smbd_base.specs.History.{messages_submitted, payload_size, peer_negotiation, pieces_sent, carries, data_frame_due, frame_due, next_event, take_fault, agreed_of, is_agreed, is_welcomed, settled, settled_by}
 use Rattle.smbd_base.proofs.BalanceLemmas.{silent_opening}
 use Rattle.smbd_base.proofs.FrameLaws.{data_frame_of-empty, data_frame_of-filled}
 use Rattle.smbd_base.proofs.Inversion.{emits, both, sending_parts}
@@ -22,7 +22,7 @@ use Rattle.transfer_msg.specs.declared.header.Header.{Header}
 use Rattle.transfer_msg.specs.Written.{header_text}
 use Rattle.fragmenter.specs.Cut.{Cutting, pieces_left, next_place, piece_at, advanced}
 use Rattle.fragmenter.specs.declared.piece.Piece.{Piece as Place}
-use Rattle.connection_core.specs.Queue.{IsUnderWay, AreUnderWay, IsQueue, Queued, IsSendable, AreSendable, AreWaiting, IsBegun, Queues, started, pieces_unsent, after_piece, to_cut, with_message, begun_with, begun_by, cut_after, after_sending, sent_from}
+use Rattle.connection_core.specs.Queue.{IsUnderWay, AreUnderWay, IsQueue, Queued, IsSendable, AreSendable, AreWaiting, IsBegun, Queues, started, pieces_unsent, after_piece, to_cut, with_message, begun_with, begun_by, cut_after, queue_after_sending, sent_from}
 use Rattle.connection_core.proofs.CutLemmas.{place_of, not_zero, next_place-some, pieces_left-cons, pieces_left-none, piece_at-length}
 use Rattle.connection_core.proofs.PeerLemmas.{size_wide}
 use Rattle.smbd_base.proofs.Hearing.{welcomed_heard}
@@ -297,7 +297,7 @@ IsBegun-begun_with size q = by_begun q.begun q.behind where
   by_begun None (m ∷ later) = λ none. absurd cc
   by_begun (Some cut) behind = λ none. absurd cc
 
-to_cut-after_sending : (size : ℕ) (q : Queued) → IsBegun q → to_cut size (after_sending q) ≡ after_piece (to_cut size q)
+to_cut-after_sending : (size : ℕ) (q : Queued) → IsBegun q → to_cut size (queue_after_sending q) ≡ after_piece (to_cut size q)
 to_cut-after_sending size q h = by_begun q.begun q.behind h where
   by_begun : (begun : Option Cutting) (behind : List (List ℕ)) → (begun ≡ None → behind ≡ [])
       → option_to_list (cut_after begun) ++ map (started size) behind ≡ after_piece (option_to_list begun ++ map (started size) behind)
@@ -369,7 +369,7 @@ stands_opened side limits past q frame lawful h silent =
     record { waits = λ off. now; sends = λ on. IsQueue-agreed (payload_size side limits past) (Emit frame ∷ past) q (size_wide side limits (Emit frame ∷ past) lawful on) now }
 
 stands_sent : (side : EndId) (limits : Limits) (past : List Event) (q : Queued) (frame : List ℕ) → IsLawful limits → IsBalanced side limits past → Queues side limits past q → is_agreed side limits past ≡ true
-    → is_welcomed side limits past ≡ true → is_silent past ≡ false → frame_due side limits past ≡ frame → Stands side limits (Emit frame ∷ past) (after_sending q)
+    → is_welcomed side limits past ≡ true → is_silent past ≡ false → frame_due side limits past ≡ frame → Stands side limits (Emit frame ∷ past) (queue_after_sending q)
 stands_sent side limits past q frame lawful b h on welcomed spoken is =
     let size : ℕ = payload_size side limits past in
     record {
@@ -394,7 +394,7 @@ Stands-emit side limits past q frame lawful b h is =
 -- ---- after a Take
 
 opening_same : (side : EndId) (limits : Limits) (past : List Event) (frame : List ℕ) → is_unheard past ≡ false → payload_size side limits (Take frame ∷ past) ≡ payload_size side limits past
-opening_same side limits past frame heard = ap (λ (bytes : List ℕ). (settled_by side limits bytes).send_size - 24) (let is : peer_opening (Take frame ∷ past) ≡ peer_opening past = rw heard refl in is)
+opening_same side limits past frame heard = ap (λ (bytes : List ℕ). (settled_by side limits bytes).send_size - 24) (let is : peer_negotiation (Take frame ∷ past) ≡ peer_negotiation past = rw heard refl in is)
 
 welcomed_same : (side : EndId) (limits : Limits) (past : List Event) (frame : List ℕ) → is_unheard past ≡ false → is_agreed side limits (Take frame ∷ past) ≡ is_agreed side limits past
 welcomed_same side limits past frame heard = rw heard refl

@@ -19,7 +19,7 @@ use Rattle.credit_ledger.proofs.Recording.{posts_fit, recorded-legal, silent_one
 use Rattle.credit_ledger.proofs.Spending.{frames_may_be_spent}
 use Rattle.connection_core.specs.Recorded.{Recorded}
 use Rattle.connection_core.specs.Keeps.{Keeps}
-use Rattle.connection_core.specs.Ledgered.{after_sending, after_taking}
+use Rattle.connection_core.specs.Ledgered.{credits_after_sending, credits_after_taking}
 use Rattle.connection_core.specs.Peers.{Knows}
 use Rattle.connection_core.specs.Standing.{standing_of, sent_standing, taken_standing}
 use Rattle.connection_core.specs.declared.peer.Peer.{Peer}
@@ -191,7 +191,7 @@ either false = inr refl
 pub Keeps-emit : (t : Inside) (history : Recorded) (ledger : Credits) (standing : Standing) (frame : List ℕ) (granted room : ℕ) → Keeps t
     → next_event t.side t.limits (past_of t) ≡ due.Emit frame → granted ≡ credits_in t.side (not t.spoken) frame
     → standing ≡ sent_standing (standing_of t.side t.limits (past_of t)) → history ≡ record { past = Emit frame ∷ past_of t; room = room }
-    → ledger ≡ after_sending (not t.spoken) granted t.ledger
+    → ledger ≡ credits_after_sending (not t.spoken) granted t.ledger
     → Keeps (record t { history = history; ledger = ledger; standing = standing; spoken = true; response_owed = false })
 Keeps-emit t history ledger standing frame granted room k due is standing_is history_is ledger_is =
     let past_is : history.past ≡ Emit frame ∷ past_of t = ap (λ (r : Recorded). r.past) history_is in
@@ -238,7 +238,7 @@ earns t in_turn k is turn =
 
 -- the ledger then
 taken_ledger : (side : EndId) (past : List Event) (ledger : Credits) (frame : List ℕ) (turn : Bool) (granted : ℕ) → IsLedgerOf side past ledger
-    → granted ≡ credits_in (peer_of side) (is_unheard past) frame → is_out_of_turn side past ≡ turn → IsLedgerOf side (Take frame ∷ past) (after_taking (not turn) granted ledger)
+    → granted ≡ credits_in (peer_of side) (is_unheard past) frame → is_out_of_turn side past ≡ turn → IsLedgerOf side (Take frame ∷ past) (credits_after_taking (not turn) granted ledger)
 taken_ledger side past ledger frame true granted l is turn =
     let taken_is : frames_taken side (Take frame ∷ past) ≡ frames_taken side past = ap (λ (b : Bool). cond b (frames_taken side past) (frames_taken side past + 1)) turn in
     let held_is : credits_held side (Take frame ∷ past) ≡ credits_held side past =
@@ -282,19 +282,19 @@ pub Keeps-take : (t : Inside) (history : Recorded) (ledger : Credits) (standing 
     → is_ready t.side t.limits (past_of t) ≡ true → fault ≡ take_fault t.side t.limits (past_of t) frame
     → in_turn ≡ not (is_out_of_turn t.side (past_of t)) → granted ≡ credits_in (peer_of t.side) (is_unheard (past_of t)) frame
     → standing ≡ taken_standing t.side (is_silent (past_of t)) fault → Knows t.side t.limits (Take frame ∷ past_of t) peer
-    → owed ≡ is_response_owed (Take frame ∷ past_of t) → history ≡ record { past = Take frame ∷ past_of t; room = room } → ledger ≡ after_taking in_turn granted t.ledger
+    → owed ≡ is_response_owed (Take frame ∷ past_of t) → history ≡ record { past = Take frame ∷ past_of t; room = room } → ledger ≡ credits_after_taking in_turn granted t.ledger
     → Keeps (record t { history = history; ledger = ledger; standing = standing; peer = peer; post_due = true; response_owed = owed })
 Keeps-take t history ledger standing peer frame fault in_turn owed granted room k ready fault_is turn_is grant_is standing_is knows owed_is history_is ledger_is =
     let past_is : history.past ≡ Take frame ∷ past_of t = ap (λ (r : Recorded). r.past) history_is in
     let r = ready_parts t.side t.limits (past_of t) ready in
     let turn : is_out_of_turn t.side (past_of t) ≡ not in_turn = sym (not_not (is_out_of_turn t.side (past_of t)) in_turn turn_is) in
-    let own : IsLedgerOf t.side (Take frame ∷ past_of t) (after_taking (not (not in_turn)) granted t.ledger) =
+    let own : IsLedgerOf t.side (Take frame ∷ past_of t) (credits_after_taking (not (not in_turn)) granted t.ledger) =
     taken_ledger t.side (past_of t) t.ledger frame (not in_turn) granted k.ledger grant_is turn in
     rw (past_is, ledger_is) (record {
       lawful = k.lawful;
       opened = refl;
       legal = (ready, k.legal);
-      ledger = subst (λ (b : Bool). IsLedgerOf t.side (Take frame ∷ past_of t) (after_taking b granted t.ledger)) (twice in_turn) own;
+      ledger = subst (λ (b : Bool). IsLedgerOf t.side (Take frame ∷ past_of t) (credits_after_taking b granted t.ledger)) (twice in_turn) own;
       most = most_of in_turn ∙ k.most;
       standing = standing_is ∙ ap (λ (o : Option TakeFault). taken_standing t.side (is_silent (past_of t)) o) fault_is
           ∙ taken_stands t.side (is_cut (past_of t)) (is_silent (past_of t)) (take_fault t.side t.limits (past_of t) frame) r.going.cut;
@@ -307,6 +307,6 @@ Keeps-take t history ledger standing peer frame fault in_turn owed granted room 
       twice true = refl
       twice false = refl
 
-      most_of : (b : Bool) → (after_taking b granted t.ledger).max_receives ≡ t.ledger.max_receives
+      most_of : (b : Bool) → (credits_after_taking b granted t.ledger).max_receives ≡ t.ledger.max_receives
       most_of true = refl
       most_of false = refl

@@ -6,7 +6,7 @@ use Rattle.smbd_base.specs.declared.end_id.EndId.TheVariants.{Client, Server}
 use Rattle.smbd_base.specs.declared.event.Event.{Event}
 use Rattle.smbd_base.specs.Limits.{Limits}
 use Rattle.smbd_base.specs.Counts.{is_unheard}
-use Rattle.smbd_base.specs.History.{is_welcomed, peer_opening, settled_by}
+use Rattle.smbd_base.specs.History.{is_welcomed, peer_negotiation, settled_by}
 use Rattle.smbd_base.specs.NegotiateMessages.{request_fields, IsLawfulRequest, IsLawfulAgreement}
 use Rattle.negotiate_msg.specs.Shown.{shown_request}
 use Rattle.negotiate_msg.specs.declared.request.NegotiateRequest.{NegotiateRequest}
@@ -46,7 +46,7 @@ Says Server limits bytes peer = SaysRequest bytes peer
 pub record HasHeard (side : EndId) (limits : Limits) (past : List Event) (peer : Peer) : Type 0 where
   pub heard : is_unheard past ≡ false
   pub welcomed : is_welcomed side limits past ≡ true
-  pub says : Says side limits (peer_opening past) peer
+  pub says : Says side limits (peer_negotiation past) peer
 
 pub record HasRefused (side : EndId) (limits : Limits) (past : List Event) : Type 0 where
   pub heard : is_unheard past ≡ false

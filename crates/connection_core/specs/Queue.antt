@@ -83,13 +83,13 @@ abbrev pub cut_after : Option Cutting → Option Cutting
 cut_after None = None
 cut_after (Some cut) = if length cut.message - (advanced cut).given == 0 then None else Some (advanced cut)
 
-abbrev pub after_sending : Queued → Queued
-after_sending q = record q { begun = cut_after q.begun }
+abbrev pub queue_after_sending : Queued → Queued
+queue_after_sending q = record q { begun = cut_after q.begun }
 
 -- once a frame was sent: the first frame of an end carries no piece
 abbrev pub sent_from : Bool → Queued → Queued
 sent_from true q = q
-sent_from false q = after_sending q
+sent_from false q = queue_after_sending q
 
 -- the next message begun, once this is agreed
 abbrev pub begun_by : Option Agreed → Queued → Queued

@@ -25,6 +25,7 @@ use smbd_base::{
 };
 use std::alloc::Global;
 use std::marker::Model;
+use transfer_msg::HEADER_SIZE;
 
 /// One end of an SMB Direct connection (MS-SMBD 3.1). Contracts see its side, its limits, its past, the newest event
 /// first, and the event that is prepared.
@@ -276,7 +277,7 @@ fn begin_next(track: &Track, outgoing: &mut Outgoing)
     ensures { outgoing.new ≡ begun_by (spec.agreed_of track.now.side track.now.limits track.now.past) outgoing.old }
 {
     if let Some(agreed) = track.agreed() {
-        outgoing.begin(agreed.send_size - frames::HEADER_SIZE as u32);
+        outgoing.begin(agreed.send_size - HEADER_SIZE as u32);
     }
 }
 

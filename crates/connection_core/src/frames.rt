@@ -5,28 +5,19 @@ ghost use Rattle.smbd_base.specs.declared.end_id.EndId.TheVariants as side;
 ghost use Rattle.smbd_base.specs.Limits.{Limits};
 ghost use Rattle.smbd_base.specs.NegotiateMessages.{IsLawfulRequest, answer_to, refusing_response, request_bytes, request_of_limits, response_bytes};
 ghost use Rattle.negotiate_msg.specs.Shown.{shown_request, shown_response};
-ghost use Rattle.connection_core.specs.Heard.{asks_in, fault_in, gathered_with, message_heard, IsOpening};
+ghost use Rattle.connection_core.specs.Heard.{asks_in, fault_in, gathered_with, message_heard, IsNegotiation};
 ghost use Rattle.transfer_msg.specs.Written.{header_text};
 
 use crate::heard::Heard;
 use crate::peer::Peer;
 use negotiate_msg::{
-    NegotiateRequest, NegotiateResponse, answer, read_request, read_response, refusal, settle,
+    NegotiateRequest, NegotiateResponse, REQUEST_SIZE, RESPONSE_SIZE, answer, read_request, read_response, refusal, settle,
     write_request, write_response,
 };
 use reassembly::Gather;
 use smbd_base::{EndId, EndLimits, Frame, Message, NegotiateFault, NoMemory, TakeFault};
 use std::alloc::Global;
-use transfer_msg::{Header, write};
-
-/// The bytes of a negotiate request (MS-SMBD 2.2.1).
-const REQUEST_SIZE: usize = 20;
-
-/// The bytes of a negotiate response (MS-SMBD 2.2.2).
-const RESPONSE_SIZE: usize = 32;
-
-/// The bytes before the payload of a data transfer message (MS-SMBD 2.2.3).
-pub const HEADER_SIZE: usize = 24;
+use transfer_msg::{HEADER_SIZE, Header, write};
 
 /// The negotiate request of a client with these limits (MS-SMBD 2.2.1).
 pub fn request(alloc: Global, limits: &EndLimits) -> Result<Frame, NoMemory>
@@ -68,8 +59,8 @@ fn response_frame(alloc: Global, response: &NegotiateResponse) -> Result<Frame, 
 }
 
 /// What the peer's negotiation message says to an end with these limits, or why it is refused.
-pub fn opening(bytes: &[u8], side: EndId, limits: &EndLimits) -> Result<Peer, NegotiateFault>
-    ensures { IsOpening side limits.now bytes.now result }
+pub fn negotiation(bytes: &[u8], side: EndId, limits: &EndLimits) -> Result<Peer, NegotiateFault>
+    ensures { IsNegotiation side limits.now bytes.now result }
 {
     match side {
         EndId::Client => response_heard(bytes, limits),
@@ -78,7 +69,7 @@ pub fn opening(bytes: &[u8], side: EndId, limits: &EndLimits) -> Result<Peer, Ne
 }
 
 fn response_heard(bytes: &[u8], limits: &EndLimits) -> Result<Peer, NegotiateFault>
-    ensures { IsOpening side.Client limits.now bytes.now result }
+    ensures { IsNegotiation side.Client limits.now bytes.now result }
 {
     match read_response(bytes, limits) {
         Ok(response) => Ok(Peer::Responds(settle(&response, limits))),
@@ -87,7 +78,7 @@ fn response_heard(bytes: &[u8], limits: &EndLimits) -> Result<Peer, NegotiateFau
 }
 
 fn request_heard(bytes: &[u8]) -> Result<Peer, NegotiateFault>
-    ensures { (limits : Limits) → IsOpening side.Server limits bytes.now result }
+    ensures { (limits : Limits) → IsNegotiation side.Server limits bytes.now result }
 {
     match read_request(bytes) {
         Ok(request) => Ok(Peer::Requests(request)),
@@ -112,8 +103,8 @@ pub fn fault(heard: &Heard, gather: &Gather) -> Option<TakeFault>
     ensures { result ≡ fault_in gather.now.max gather.now.expected heard.now }
 {
     match heard {
-        Heard::Opening(Ok(_)) => None,
-        Heard::Opening(Err(fault)) => Some(TakeFault::Negotiate(*fault)),
+        Heard::Negotiation(Ok(_)) => None,
+        Heard::Negotiation(Err(fault)) => Some(TakeFault::Negotiate(*fault)),
         Heard::Data(Err(fault)) => Some(TakeFault::Frame(*fault)),
         Heard::Data(Ok(view)) if view.payload.is_empty() => None,
         Heard::Data(Ok(view)) => gather
@@ -128,7 +119,7 @@ pub fn asks(heard: &Heard) -> bool
 {
     match heard {
         Heard::Data(Ok(view)) => view.flags % 2 == 1,
-        Heard::Data(Err(_)) | Heard::Opening(_) => false,
+        Heard::Data(Err(_)) | Heard::Negotiation(_) => false,
     }
 }
 

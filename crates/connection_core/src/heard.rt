@@ -8,7 +8,7 @@ use transfer_msg::DataView;
 #[derive(Clone, Copy, Debug)]
 pub enum Heard<'a> {
     /// The first frame, as the peer's negotiation message (MS-SMBD 2.2.1 and 2.2.2), or why it is refused.
-    Opening(Result<Peer, NegotiateFault>),
+    Negotiation(Result<Peer, NegotiateFault>),
     /// A later frame, as a data transfer message (MS-SMBD 2.2.3), or why it is none.
     Data(Result<DataView<'a>, FrameFault>),
 }

@@ -1,7 +1,7 @@
 //! The messages that an end has still to send.
 
 ghost use Rattle.std.specs.Prelude.{◌≡◌, ◌≤◌, ◌==◌, [], None, OnOk, OnErr, length, not, is_some, is_none, option_copied, ◌&&◌};
-ghost use Rattle.connection_core.specs.Queue.{after_sending, begun_with, with_message, IsSendable};
+ghost use Rattle.connection_core.specs.Queue.{queue_after_sending, begun_with, with_message, IsSendable};
 
 use fragmenter::Cutter;
 use smbd_base::{Message, NoMemory};
@@ -83,7 +83,7 @@ impl Outgoing {
 
     /// Gives the next piece of the message that is begun, and lets go of it with its last piece.
     pub fn sent(&mut self)
-        ensures { self.new ≡ after_sending self.old }
+        ensures { self.new ≡ queue_after_sending self.old }
     {
         let Some(cutter) = &mut self.cutter else {
             return;

@@ -14,7 +14,7 @@ ghost use Rattle.credit_ledger.specs.Credits.{may_spend};
 ghost use Rattle.fragmenter.specs.Cut.{next_place, piece_at};
 ghost use Rattle.connection_core.specs.Gatherer.{gatherer_of};
 ghost use Rattle.connection_core.specs.Heard.{IsHeard};
-ghost use Rattle.connection_core.specs.Ledgered.{after_sending, after_taking};
+ghost use Rattle.connection_core.specs.Ledgered.{credits_after_sending, credits_after_taking};
 ghost use Rattle.connection_core.specs.Peers.{Knows};
 ghost use Rattle.connection_core.specs.Queue.{IsSendable, Queues};
 ghost use Rattle.connection_core.specs.Standing.{sent_standing, standing_of, taken_standing};
@@ -28,16 +28,10 @@ use credit_ledger::Ledger;
 use fragmenter::{Cutter, Piece};
 use negotiate_msg::settle_with_client;
 use reassembly::Gather;
-use smbd_base::{
-    Agreed, EndId, EndLimits, Event, Frame, Message, NegotiateFault, Next, NoMemory, SubmitFault,
-    TakeFault,
-};
+use smbd_base::{Agreed, EndId, EndLimits, Event, Frame, LEAST_FRAGMENTED_SIZE, Message, NegotiateFault, Next, NoMemory, SubmitFault, TakeFault};
 use std::alloc::Global;
 use std::marker::Model;
 use transfer_msg::{Header, read};
-
-/// The bytes that every end gathers of a message (the least MaxFragmentedSize, MS-SMBD 3.1.1.1).
-const GATHERED_AT_LEAST: u32 = 131_072;
 
 /// Whether an end goes on.
 #[derive(Clone, Copy, Debug, PartialEq, Eq)]
@@ -207,7 +201,7 @@ impl Track {
     {
         match self.agreed() {
             Some(agreed) => agreed.message_max,
-            None => GATHERED_AT_LEAST,
+            None => LEAST_FRAGMENTED_SIZE,
         }
     }
 
@@ -216,7 +210,7 @@ impl Track {
         ensures { IsHeard self.now.side self.now.limits self.now.past frame.now result }
     {
         if self.is_unheard() {
-            Heard::Opening(frames::opening(frame.bytes(), self.side, &self.limits))
+            Heard::Negotiation(frames::negotiation(frame.bytes(), self.side, &self.limits))
         } else {
             Heard::Data(read(frame.bytes()))
         }
@@ -256,8 +250,8 @@ impl Track {
         if self.is_post_due() {
             return Ok(Next::Post(1));
         }
-        if self.is_opening() {
-            return Ok(Next::Emit(self.opening_frame(alloc)?));
+        if self.is_negotiating() {
+            return Ok(Next::Emit(self.negotiation_frame(alloc)?));
         }
         if self.is_sending(outgoing) {
             return Ok(Next::Emit(self.frame_due(alloc, outgoing)?));
@@ -279,8 +273,8 @@ impl Track {
     }
 
     /// Whether the negotiation message of this end is due.
-    fn is_opening(&self) -> bool
-        ensures { result ≡ spec.is_opening self.now.side self.now.past }
+    fn is_negotiating(&self) -> bool
+        ensures { result ≡ spec.is_negotiating self.now.side self.now.past }
     {
         match self.side {
             EndId::Client => !self.spoken,
@@ -289,12 +283,12 @@ impl Track {
     }
 
     /// The negotiation message that is due.
-    fn opening_frame(&self, alloc: Global) -> Result<Frame, NoMemory>
+    fn negotiation_frame(&self, alloc: Global) -> Result<Frame, NoMemory>
         requires uncut { spec.is_cut self.now.past ≡ false }
         requires going { spec.is_closed self.now.side self.now.limits self.now.past ≡ false }
         requires reposted { spec.is_post_due self.now.past ≡ false }
-        requires opening { spec.is_opening self.now.side self.now.past ≡ true }
-        ensures { IfOk result (λ f. f ≡ spec.opening_frame self.now.side self.now.limits self.now.past) }
+        requires opening { spec.is_negotiating self.now.side self.now.past ≡ true }
+        ensures { IfOk result (λ f. f ≡ spec.negotiation_frame self.now.side self.now.limits self.now.past) }
     {
         match &self.peer {
             Peer::Requests(request) => {
@@ -486,9 +480,9 @@ impl Track {
     {
         match heard {
             Heard::Data(_) => self.peer,
-            Heard::Opening(_) if refused => Peer::Refused,
-            Heard::Opening(Ok(peer)) => *peer,
-            Heard::Opening(Err(_)) => unreachable!(),
+            Heard::Negotiation(_) if refused => Peer::Refused,
+            Heard::Negotiation(Ok(peer)) => *peer,
+            Heard::Negotiation(Err(_)) => unreachable!(),
         }
     }
 
@@ -516,7 +510,7 @@ impl Track {
 fn spend(ledger: &mut Ledger, opening: bool, granted: u16)
     requires one { (opening && granted == 0) ≡ true → ledger.old.held ≡ 1 }
     requires may { (opening && granted == 0) ≡ false → may_spend granted ledger.old ≡ true }
-    ensures { ledger.new ≡ after_sending opening granted ledger.old }
+    ensures { ledger.new ≡ credits_after_sending opening granted ledger.old }
 {
     if opening && granted == 0 {
         ledger.spend_request();
@@ -528,7 +522,7 @@ fn spend(ledger: &mut Ledger, opening: bool, granted: u16)
 /// Earns what a frame grants that came in turn.
 fn earn(ledger: &mut Ledger, in_turn: bool, granted: u16)
     requires turn { in_turn ≡ true → 1 ≤ ledger.old.outstanding }
-    ensures { ledger.new ≡ after_taking in_turn granted ledger.old }
+    ensures { ledger.new ≡ credits_after_taking in_turn granted ledger.old }
 {
     if in_turn {
         ledger.took(granted);

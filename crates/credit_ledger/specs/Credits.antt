@@ -12,7 +12,7 @@ pub record Credits : Type 0 where
   pub max_receives : ℕ
 
 -- no more receives stand than may, and each number lies in its range
-pub record IsKept (c : Credits) : Type 0 where
+pub record IsLedger (c : Credits) : Type 0 where
   pub receives : c.grantable + c.outstanding ≤ c.max_receives
   pub range : IsWithin LEAST_CREDITS MOST_CREDITS c.max_receives
   pub credits : c.held ≤ 65535

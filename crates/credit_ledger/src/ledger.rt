@@ -18,13 +18,13 @@ pub struct Ledger {
 }
 
 impl Model for Ledger {
-    ghost use Rattle.credit_ledger.specs.Credits.{Credits, IsKept};
+    ghost use Rattle.credit_ledger.specs.Credits.{Credits, IsLedger};
 
     ghost Value = { Credits };
 
     ghost view = { λ l. record { held = l.held; outstanding = l.outstanding; grantable = l.grantable; max_receives = l.max_receives } };
 
-    ghost invariant = { λ l. IsKept (record { held = l.held; outstanding = l.outstanding; grantable = l.grantable; max_receives = l.max_receives }) };
+    ghost invariant = { λ l. IsLedger (record { held = l.held; outstanding = l.outstanding; grantable = l.grantable; max_receives = l.max_receives }) };
 }
 
 impl Ledger {

@@ -10,14 +10,14 @@ use Rattle.std.proofs.KnownBytes.{Appends-nil, Appends-trans}
 use Rattle.std.proofs.lemmas.Grind.{flat_map-append}
 use Rattle.std.proofs.lemmas.List.{take_more, drop_more, take_all}
 use Rattle.smbd_outside.specs.Streams.{AppendsFront}
-use Rattle.event_log.specs.Batches.{IsHeld}
+use Rattle.event_log.specs.Batches.{IsBatched}
 use Rattle.event_log.specs.Lines.{lines_text}
 
-pub held_none : (sink : Option (List ℕ)) → IsHeld sink sink [] []
+pub held_none : (sink : Option (List ℕ)) → IsBatched sink sink [] []
 held_none sink = record { front = []; whole = refl; got = Appends-nil sink }
 
-pub held_more : (a b c : Option (List ℕ)) (bytes held more later : List ℕ) → IsHeld a b bytes held → IsHeld b c (held ++ more) later
-    → IsHeld a c (bytes ++ more) later
+pub held_more : (a b c : Option (List ℕ)) (bytes held more later : List ℕ) → IsBatched a b bytes held → IsBatched b c (held ++ more) later
+    → IsBatched a c (bytes ++ more) later
 held_more a b c bytes held more later before after = record {
   front = before.front ++ after.front;
   whole =
@@ -27,21 +27,21 @@ held_more a b c bytes held more later before after = record {
 }
 
 -- all that was held is written
-pub held_all : (a b c : Option (List ℕ)) (bytes held : List ℕ) → IsHeld a b bytes held → Appends b c held → IsHeld a c bytes []
+pub held_all : (a b c : Option (List ℕ)) (bytes held : List ℕ) → IsBatched a b bytes held → Appends b c held → IsBatched a c bytes []
 held_all a b c bytes held before more = record {
   front = before.front ++ held;
   whole = before.whole ∙ sym (append-nil (before.front ++ held));
   got = Appends-trans a b c before.front held before.got more;
 }
 
-pub all_written : (a b : Option (List ℕ)) (bytes : List ℕ) → IsHeld a b bytes [] → Appends a b bytes
+pub all_written : (a b : Option (List ℕ)) (bytes : List ℕ) → IsBatched a b bytes [] → Appends a b bytes
 all_written a b bytes h =
     let P : List ℕ → Type 0 = λ xs. Appends a b xs in
     subst P (sym (h.whole ∙ append-nil h.front)) h.got
 
 -- two pieces written whole, one after the other
 pub both_written : {E : Type 0} (r : Result (Unit {0}) E) (a b c : Option (List ℕ)) (x x' y held : List ℕ) → x' ≡ x → Appends a b x'
-    → OnOk r (Appends b c y) → held ≡ [] → OnOk r (IsHeld a c (x ++ y) held)
+    → OnOk r (Appends b c y) → held ≡ [] → OnOk r (IsBatched a c (x ++ y) held)
 both_written (Ok done) a b c x x' y held same first second none = record {
   front = x' ++ y;
   whole = ap (λ (xs : List ℕ). xs ++ y) (sym same) ∙ sym (append-nil (x' ++ y)) ∙ ap (λ (xs : List ℕ). x' ++ y ++ xs) (sym none);
@@ -50,7 +50,7 @@ both_written (Ok done) a b c x x' y held same first second none = record {
 both_written (Err failed) a b c x x' y held same first second none = tt
 
 -- a front of what was held and of more is a front of the whole
-pub front_of : (a b c : Option (List ℕ)) (bytes held more rest whole : List ℕ) → IsHeld a b bytes held → AppendsFront b c (held ++ more)
+pub front_of : (a b c : Option (List ℕ)) (bytes held more rest whole : List ℕ) → IsBatched a b bytes held → AppendsFront b c (held ++ more)
     → whole ≡ (bytes ++ more) ++ rest → AppendsFront a c whole
 front_of a b c bytes held more rest whole before part is = record {
   front = before.front ++ part.front;
@@ -66,7 +66,7 @@ front_of a b c bytes held more rest whole before part is = record {
 }
 
 -- a front of all that was held
-pub held_front_of : {E : Type 0} (r : Result (Unit {0}) E) (a b c : Option (List ℕ)) (bytes held held' : List ℕ) → IsHeld a b bytes held
+pub held_front_of : {E : Type 0} (r : Result (Unit {0}) E) (a b c : Option (List ℕ)) (bytes held held' : List ℕ) → IsBatched a b bytes held
     → held' ≡ held → OnErr r (AppendsFront b c held') → OnErr r (AppendsFront a c bytes)
 held_front_of (Ok done) a b c bytes held held' before same part = tt
 held_front_of (Err failed) a b c bytes held held' before same part =
@@ -103,16 +103,16 @@ on_err (Err failed) h = h
 -- A line and its line feed are added to the lines before it: what is held then, and the front that was written where
 -- the first or the second of them failed.
 module _ (a b : Option (List ℕ)) (lines : List (List ℕ)) (i : ℕ) (line bytes held : List ℕ) (below : i < length lines)
-    (is : line ≡ get_or lines i line) (same : bytes ≡ line) (before : IsHeld a b (lines_text (take i lines)) held) where
+    (is : line ≡ get_or lines i line) (same : bytes ≡ line) (before : IsBatched a b (lines_text (take i lines)) held) where
   whole_at : lines_text lines ≡ (lines_text (take i lines) ++ bytes) ++ (10 ∷ lines_text (drop (i + 1) lines))
   whole_at =
       lines_text-at lines i line below is
       ∙ ap (λ (l : List ℕ). (lines_text (take i lines) ++ l) ++ (10 ∷ lines_text (drop (i + 1) lines))) (sym same)
 
-  pub line_held : (c d : Option (List ℕ)) (mid later : List ℕ) → IsHeld b c (held ++ bytes) mid → IsHeld c d (mid ++ 10 ∷ []) later
-      → IsHeld a d (lines_text (take (i + 1) lines)) later
+  pub line_held : (c d : Option (List ℕ)) (mid later : List ℕ) → IsBatched b c (held ++ bytes) mid → IsBatched c d (mid ++ 10 ∷ []) later
+      → IsBatched a d (lines_text (take (i + 1) lines)) later
   line_held c d mid later first second =
-      let P : List ℕ → Type 0 = λ xs. IsHeld a d xs later in
+      let P : List ℕ → Type 0 = λ xs. IsBatched a d xs later in
       subst P (ap (λ (l : List ℕ). (lines_text (take i lines) ++ l) ++ 10 ∷ []) same ∙ sym (lines_text-more lines i line below is))
       (held_more a c d (lines_text (take i lines) ++ bytes) mid (10 ∷ []) later
       (held_more a b c (lines_text (take i lines)) held bytes mid before first) second)
@@ -120,7 +120,7 @@ module _ (a b : Option (List ℕ)) (lines : List (List ℕ)) (i : ℕ) (line byt
   pub line_front : (c : Option (List ℕ)) → AppendsFront b c (held ++ bytes) → AppendsFront a c (lines_text lines)
   line_front c part = front_of a b c (lines_text (take i lines)) held bytes (10 ∷ lines_text (drop (i + 1) lines)) (lines_text lines) before part whole_at
 
-  pub feed_front : (c d : Option (List ℕ)) (mid : List ℕ) → IsHeld b c (held ++ bytes) mid → AppendsFront c d (mid ++ 10 ∷ [])
+  pub feed_front : (c d : Option (List ℕ)) (mid : List ℕ) → IsBatched b c (held ++ bytes) mid → AppendsFront c d (mid ++ 10 ∷ [])
       → AppendsFront a d (lines_text lines)
   feed_front c d mid first part =
       front_of a c d (lines_text (take i lines) ++ bytes) mid (10 ∷ []) (lines_text (drop (i + 1) lines)) (lines_text lines)
@@ -128,9 +128,9 @@ module _ (a b : Option (List ℕ)) (lines : List (List ℕ)) (i : ℕ) (line byt
       (whole_at ∙ sym (append_assoc (lines_text (take i lines) ++ bytes) (10 ∷ []) (lines_text (drop (i + 1) lines))))
 
 pub all_lines_held : (a b : Option (List ℕ)) (lines : List (List ℕ)) (i : ℕ) (held : List ℕ) → length lines ≤ i
-    → IsHeld a b (lines_text (take i lines)) held → IsHeld a b (lines_text lines) held
+    → IsBatched a b (lines_text (take i lines)) held → IsBatched a b (lines_text lines) held
 all_lines_held a b lines i held all before =
-    let P : List (List ℕ) → Type 0 = λ ls. IsHeld a b (lines_text ls) held in
+    let P : List (List ℕ) → Type 0 = λ ls. IsBatched a b (lines_text ls) held in
     subst P (take_all i lines all) before
 
 -- a text of lines without line feeds falls apart into them

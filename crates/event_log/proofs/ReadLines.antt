@@ -20,7 +20,7 @@ use Rattle.event_log.specs.declared.fault.LineFault.{LineFault}
 use Rattle.event_log.specs.declared.fault.LineFault.TheVariants as faults
 use Rattle.event_log.specs.declared.word.Word.{Word}
 use Rattle.event_log.specs.declared.word.Word.TheVariants as words
-use Rattle.event_log.specs.Lines.{side_text, right_text, words_of, line_text, IsBetween, IsEnd, IsWorker, IsInPage, IsLawfulLine}
+use Rattle.event_log.specs.Lines.{side_text, right_text, words_of, line_text, IsBetween, IsEnd, IsWorker, FitsPage, IsLawfulLine}
 use Rattle.event_log.specs.Reading.{parts_of, end_named, worker_named, side_named, end_word, page_word, right_named, word_named, number_in, next_number, next_right, line_at_end, token_numbered, post_of, submit_of, emit_of, take_of, load_of, fetch_of, place_of, unload_of, after_side, after_word, with_side, or_number, line_of_word, line_of_parts, reading_of, ◌>>=◌}
 use Rattle.event_log.proofs.NextParts.{stepped, same_some, IsNumberPart, number_part, then_parts}
 use Rattle.event_log.proofs.FrameTexts.{frame_line-ok}
@@ -152,7 +152,7 @@ load_read side worker parts line h =
     read_as side (codes "load") parts (decimal (number_of (token_numbered a.0.0)) ∷ right_text r.0.0 ∷ decimal b.0.0 ∷ []) (Load (token_numbered a.0.0) r.0.0 b.0.0) line f.1 ((worker, token_lawful a.0.0 t.fits, m.fits), no_bytes) (load_words (token_numbered a.0.0) r.0.0 b.0.0)
     (token_part a.0.0 parts a.0.1 _ t.part (then_parts _ a.0.1 r.0.1 _ (right_part a.0.1 r.0 r.1) (then_parts _ r.0.1 b.0.1 [] m.part f.0)))
 
-in_page : (at len : ℕ) → IsBetween 0 (PAGE_SIZE - 1) at → IsBetween 1 (PAGE_SIZE - at) len → IsInPage at len
+in_page : (at len : ℕ) → IsBetween 0 (PAGE_SIZE - 1) at → IsBetween 1 (PAGE_SIZE - at) len → FitsPage at len
 in_page at len a b =
     let most = a.high in
     let low = b.low in

@@ -18,7 +18,7 @@ use Rattle.event_log.specs.declared.log_line.LogLine.TheVariants.{Post, Submit, 
 use Rattle.event_log.specs.declared.fault.LineFault.{LineFault}
 use Rattle.event_log.specs.declared.word.Word.{Word}
 use Rattle.event_log.specs.declared.word.Word.TheVariants as words
-use Rattle.event_log.specs.Lines.{side_text, right_text, words_of, line_text, IsBetween, IsEnd, IsWorker, IsInPage, IsLawfulLine}
+use Rattle.event_log.specs.Lines.{side_text, right_text, words_of, line_text, IsBetween, IsEnd, IsWorker, FitsPage, IsLawfulLine}
 use Rattle.event_log.specs.Reading.{side_named, end_word, page_word, right_named, word_named, number_in, token_numbered, post_of, submit_of, emit_of, take_of, load_of, fetch_of, place_of, unload_of, after_side, after_word, with_side, or_number, line_of_word, line_of_parts, reading_of}
 use Rattle.event_log.proofs.NumberLemmas.{number_in-inside}
 use Rattle.event_log.proofs.FrameTexts.{frame_line-encode}
@@ -130,7 +130,7 @@ load_back token right len t b =
     let high = b.high in
     rw (read_token token t, read_right right, read_number 1 PAGE_SIZE len (omega arith) b.low b.high, token_back token t) refl
 
-fetch_back : (token : PageToken) (at len : ℕ) → IsToken token → IsInPage at len
+fetch_back : (token : PageToken) (at len : ℕ) → IsToken token → FitsPage at len
     → fetch_of (decimal (number_of token) ∷ decimal at ∷ decimal len ∷ []) ≡ Some (Fetch token at len)
 unfolding fetch_of
 fetch_back token at len t b =
@@ -143,7 +143,7 @@ fetch_back token at len t b =
       token_back token t,
     ) refl
 
-place_back : (token : PageToken) (order at len : ℕ) → IsToken token → IsBetween 0 65534 order → IsInPage at len
+place_back : (token : PageToken) (order at len : ℕ) → IsToken token → IsBetween 0 65534 order → FitsPage at len
     → place_of (decimal (number_of token) ∷ decimal order ∷ decimal at ∷ decimal len ∷ []) ≡ Some (Place token order at len)
 unfolding place_of
 place_back token order at len t o b =

@@ -67,7 +67,7 @@ IsWorker (Cw worker) = IsBetween 1 8 worker
 IsWorker (Sw worker) = IsBetween 1 8 worker
 
 -- bytes of one page: at least one, and none past the page's end
-pub record IsInPage (at len : ℕ) : Type 0 where
+pub record FitsPage (at len : ℕ) : Type 0 where
   pub some : 1 ≤ len
   pub within : at + len ≤ PAGE_SIZE
 
@@ -80,9 +80,9 @@ HasLawfulNumbers side (Emit frame) = IsEnd side × IsBetween 1 MOST_FRAME_SIZE (
 HasLawfulNumbers side (Take number len) = IsEnd side × IsBetween 1 (2 ^ 62 - 1) number × IsBetween 1 MOST_FRAME_SIZE len
 HasLawfulNumbers side Cut = IsEnd side
 HasLawfulNumbers side (Load token right len) = IsWorker side × IsToken token × IsBetween 1 PAGE_SIZE len
-HasLawfulNumbers side (Fetch token at len) = IsWorker side × IsToken token × IsInPage at len
+HasLawfulNumbers side (Fetch token at len) = IsWorker side × IsToken token × FitsPage at len
 HasLawfulNumbers side (Place token order at len) =
-    IsWorker side × IsToken token × IsBetween 0 65534 order × IsInPage at len
+    IsWorker side × IsToken token × IsBetween 0 65534 order × FitsPage at len
 HasLawfulNumbers side (Unload token) = IsWorker side × IsToken token
 
 -- the frame of a line, and nothing where it has none

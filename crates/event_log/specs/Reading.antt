@@ -218,5 +218,5 @@ abbrev pub IsEmitLine : Result (Side × LogLine) LineFault → Type 0
 IsEmitLine reading = (side : Side) × (frame : List ℕ) × (reading ≡ Ok (side, Emit frame))
 
 -- The bytes have this fault and none before it. Want of memory is no fault of theirs: they are the line of a frame.
-abbrev pub IsFaultOf : LineFault → List ℕ → Type 0
-IsFaultOf fault bytes = IsCause (IsEmitLine (reading_of bytes)) fault (reading_of bytes)
+abbrev pub IsLineFault : LineFault → List ℕ → Type 0
+IsLineFault fault bytes = IsCause (IsEmitLine (reading_of bytes)) fault (reading_of bytes)

@@ -9,10 +9,10 @@ use Rattle.event_log.specs.declared.fault.LineFault.{LineFault}
 use Rattle.event_log.specs.declared.fault.LineFault.TheVariants as faults
 
 -- a text, and what it says
-abbrev pub Reads : Type 0
-Reads = List ℕ × Result (Side × LogLine) LineFault
+abbrev pub ReadsText : Type 0
+ReadsText = List ℕ × Result (Side × LogLine) LineFault
 
-abbrev pub worked_lines : List Reads
+abbrev pub worked_lines : List ReadsText
 worked_lines =
     (codes "C take 1 20", Ok (C, Take 1 20))
     ∷ (codes "S post 255", Ok (S, Post 255))
@@ -25,7 +25,7 @@ worked_lines =
     ∷ (codes "C1 unload 256", Ok (Cw 1, Unload (record { page = 0; generation = 1 })))
     ∷ []
 
-abbrev pub worked_faults : List Reads
+abbrev pub worked_faults : List ReadsText
 worked_faults =
     (codes "", Err faults.Side)
     ∷ (codes "X cut", Err faults.Side)

@@ -3,7 +3,7 @@
 ghost use Rattle.std.specs.Prelude.{◌≡◌, ◌↔◌, ◌+◌, ◌≤◌, ◌++◌, [], length, IsTrue, OnOk, OnErr};
 ghost use Rattle.smbd_outside.specs.Causes.{HasCause};
 ghost use Rattle.smbd_outside.specs.Streams.{AppendsFront};
-ghost use Rattle.event_log.specs.Batches.{IsHeld};
+ghost use Rattle.event_log.specs.Batches.{IsBatched};
 
 use smbd_outside::{Failed, Sink, write_whole};
 use std::marker::Model;
@@ -73,7 +73,7 @@ impl Batch {
 
 /// Collects these bytes too, and writes what was collected before where there is no room for them.
 pub(crate) fn add<L: Sink>(batch: &mut Batch, log: &mut L, more: &[u8]) -> Result<(), Failed>
-    ensures held { OnOk result (IsHeld (L.written log.old) (L.written log.new) (batch.old ++ more.now) batch.new) }
+    ensures held { OnOk result (IsBatched (L.written log.old) (L.written log.new) (batch.old ++ more.now) batch.new) }
     ensures front { OnErr result (AppendsFront (L.written log.old) (L.written log.new) (batch.old ++ more.now)) }
     ensures cause { HasCause (L.faults log.old) (L.faults log.new) result }
 {

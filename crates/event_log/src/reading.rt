@@ -21,7 +21,7 @@ pub fn read_line(alloc: Global, bytes: &[u8]) -> Result<(Side, LogLine), LineFau
     ensures written { IfOk result (λ line. IsLawfulLine line.0 line.1 × (bytes.now ≡ line_text line.0 line.1)) }
 
     // Each other fault comes exactly where it is the first, and want of memory only at the line of a frame.
-    ensures fault { IfErr result (λ fault. spec.IsFaultOf fault bytes.now) }
+    ensures fault { IfErr result (λ fault. spec.IsLineFault fault bytes.now) }
 {
     if bytes.len() > 16_400 {
         return Err(LineFault::Long);

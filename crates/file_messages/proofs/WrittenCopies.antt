@@ -4,7 +4,7 @@ use Rattle.std.proofs.Math.Nat.{mod-lt, div-le_self}
 use Rattle.std.proofs.lemmas.Bool.Decides.{nat_tests}
 use Rattle.std.proofs.lemmas.List.{length-drop}
 use Rattle.buffer_descriptor.specs.declared.descriptor.Descriptor.{Descriptor}
-use Rattle.buffer_descriptor.specs.Descriptors.{end_of}
+use Rattle.buffer_descriptor.specs.Descriptors.{place_after}
 use Rattle.file_messages.specs.declared.kind.Channel.{Channel}
 use Rattle.file_messages.specs.declared.kind.Channel.TheVariants as channels
 use Rattle.file_messages.specs.declared.message.Request.{Request}
@@ -29,18 +29,18 @@ unfolding OnPages
 all-sound page [] o few = refl
 all-sound page (d ∷ ds) o few =
     let a : nat_lt 0 d.length ≡ true = (let x : 1 ≤ d.length = o.1 in grind (arith, nat_tests)) in
-    let b : nat_lt (end_of d) (2 ^ 64) ≡ true = (let x : end_of d < 2 ^ 64 = omega (arith, o.0, o.2) in grind (arith, nat_tests)) in
-    both (nat_lt 0 d.length) (nat_lt (end_of d) (2 ^ 64)) (are_sound ds) a b (all-sound (page + 1) ds o.4 (omega arith))
+    let b : nat_lt (place_after d) (2 ^ 64) ≡ true = (let x : place_after d < 2 ^ 64 = omega (arith, o.0, o.2) in grind (arith, nat_tests)) in
+    both (nat_lt 0 d.length) (nat_lt (place_after d) (2 ^ 64)) (are_sound ds) a b (all-sound (page + 1) ds o.4 (omega arith))
   where
     both : (x y z : Bool) → x ≡ true → y ≡ true → z ≡ true → ((x && y) && z) ≡ true
     both x y z p q r = rw (p, q, r) refl
 
-shares-none : (d : Descriptor) (page : ℕ) (ds : List Descriptor) → OnPages page ds → end_of d ≤ page * 4096 → shares_with d ds ≡ false
+shares-none : (d : Descriptor) (page : ℕ) (ds : List Descriptor) → OnPages page ds → place_after d ≤ page * 4096 → shares_with d ds ≡ false
 unfolding OnPages
 shares-none d page [] o e = refl
 shares-none d page (f ∷ ds) o e =
-    let after : nat_lt f.offset (end_of d) ≡ false = (let x : end_of d ≤ f.offset = omega (arith, o.0) in grind (arith, nat_tests)) in
-    by_parts (nat_lt d.offset (end_of f)) (nat_lt f.offset (end_of d)) (shares_with d ds) after (shares-none d (page + 1) ds o.4 (omega arith))
+    let after : nat_lt f.offset (place_after d) ≡ false = (let x : place_after d ≤ f.offset = omega (arith, o.0) in grind (arith, nat_tests)) in
+    by_parts (nat_lt d.offset (place_after f)) (nat_lt f.offset (place_after d)) (shares_with d ds) after (shares-none d (page + 1) ds o.4 (omega arith))
   where
     by_parts : (x y z : Bool) → y ≡ false → z ≡ false → ((x && y) || z) ≡ false
     by_parts true y z p q = rw (p, q) refl

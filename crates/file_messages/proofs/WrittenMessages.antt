@@ -7,7 +7,7 @@ use Rattle.std.proofs.lemmas.List.{append-nil, get_or-append-add}
 use Rattle.smbd_base.specs.Fields.{u16_at, u32_at}
 use Rattle.smbd_base.proofs.FrameLaws.{u16_at-append, u32_at-append}
 use Rattle.buffer_descriptor.specs.declared.descriptor.Descriptor.{Descriptor}
-use Rattle.buffer_descriptor.specs.Descriptors.{fields_of, descriptor_bytes, end_of}
+use Rattle.buffer_descriptor.specs.Descriptors.{fields_of, descriptor_bytes, place_after}
 use Rattle.file_messages.specs.declared.fault.FileFault.{FileFault}
 use Rattle.file_messages.specs.declared.fault.FileFault.TheVariants.{Short, Op, Channel, Count, Length, Overlap, Order}
 use Rattle.file_messages.specs.declared.message.Request.{Request}
@@ -180,10 +180,10 @@ ends_read id offset place =
 
 -- ---- descriptors
 
-sound_parts : (d : Descriptor) (later : Bool) → (is_sound d && later) ≡ true → (1 ≤ d.length) × (end_of d < 2 ^ 64) × (later ≡ true)
-sound_parts d later e = by_tests (nat_lt 0 d.length) (nat_lt (end_of d) (2 ^ 64)) later refl refl e where
-  by_tests : (a b c : Bool) → nat_lt 0 d.length ≡ a → nat_lt (end_of d) (2 ^ 64) ≡ b → ((a && b) && c) ≡ true → (1 ≤ d.length) × (end_of d < 2 ^ 64) × (c ≡ true)
-  by_tests true true true p q h = ((let x : 0 < d.length = grind (arith, nat_tests) in omega arith), (let x : end_of d < 2 ^ 64 = grind (arith, nat_tests) in x), refl)
+sound_parts : (d : Descriptor) (later : Bool) → (is_sound d && later) ≡ true → (1 ≤ d.length) × (place_after d < 2 ^ 64) × (later ≡ true)
+sound_parts d later e = by_tests (nat_lt 0 d.length) (nat_lt (place_after d) (2 ^ 64)) later refl refl e where
+  by_tests : (a b c : Bool) → nat_lt 0 d.length ≡ a → nat_lt (place_after d) (2 ^ 64) ≡ b → ((a && b) && c) ≡ true → (1 ≤ d.length) × (place_after d < 2 ^ 64) × (c ≡ true)
+  by_tests true true true p q h = ((let x : 0 < d.length = grind (arith, nat_tests) in omega arith), (let x : place_after d < 2 ^ 64 = grind (arith, nat_tests) in x), refl)
   by_tests true true false p q h = absurd (let x : ⊥ = cc in x)
   by_tests true false c p q h = absurd (let x : ⊥ = cc in x)
   by_tests false b c p q h = absurd (let x : ⊥ = cc in x)
@@ -204,7 +204,7 @@ list_written : (list : List Descriptor) (rest : List ℕ) → TokensFit list →
 list_written [] rest t s few = refl
 list_written (d ∷ list) rest t s few =
     let parts = sound_parts d (are_sound list) s in
-    let end : end_of d < 2 ^ 64 = parts.1 in
+    let end : place_after d < 2 ^ 64 = parts.1 in
     ap (λ (x : Descriptor). x ∷ descriptors_in (length list) (flat_map descriptor_bytes list ++ rest))
     (fields_written d (flat_map descriptor_bytes list ++ rest) (omega arith) t.0 (omega arith))
     ∙ ap (λ (x : List Descriptor). d ∷ x) (list_written list rest t.1 parts.2 (omega arith))

@@ -4,7 +4,7 @@ use Rattle.std.specs.Int.{w16, w32, w64, to_le_bytes}
 use Rattle.std.specs.List.{flat_map}
 use Rattle.smbd_base.specs.Fields.{u16_at, u32_at}
 use Rattle.buffer_descriptor.specs.declared.descriptor.Descriptor.{Descriptor}
-use Rattle.buffer_descriptor.specs.Descriptors.{end_of, fields_of, descriptor_bytes}
+use Rattle.buffer_descriptor.specs.Descriptors.{place_after, fields_of, descriptor_bytes}
 use Rattle.file_messages.specs.declared.fault.FileFault.{FileFault}
 use Rattle.file_messages.specs.declared.fault.FileFault.TheVariants.{Short, Op, Channel, Count, Length, Overlap, Order, NoMemory}
 use Rattle.file_messages.specs.declared.message.Request.{Request}
@@ -29,7 +29,7 @@ descriptors_in (suc count) bytes = fields_of bytes ∷ descriptors_in count (dro
 
 -- a descriptor names at least one byte, and its interval ends below 2^64
 abbrev pub is_sound : Descriptor → Bool
-is_sound d = nat_lt 0 d.length && nat_lt (end_of d) (2 ^ 64)
+is_sound d = nat_lt 0 d.length && nat_lt (place_after d) (2 ^ 64)
 
 abbrev pub are_sound : List Descriptor → Bool
 are_sound [] = true
@@ -41,7 +41,7 @@ sum_of_lengths (d ∷ list) = d.length + sum_of_lengths list
 
 -- two descriptors have a byte in common
 abbrev pub share_a_byte : Descriptor → Descriptor → Bool
-share_a_byte d e = nat_lt d.offset (end_of e) && nat_lt e.offset (end_of d)
+share_a_byte d e = nat_lt d.offset (place_after e) && nat_lt e.offset (place_after d)
 
 abbrev pub shares_with : Descriptor → List Descriptor → Bool
 shares_with d [] = false

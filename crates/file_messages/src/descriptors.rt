@@ -1,7 +1,7 @@
 //! The descriptors that stand after the header of a request.
 
 ghost use Rattle.std.specs.Prelude.{◌≡◌, ◌+◌, ◌*◌, ◌-◌, ◌==◌, ◌&&◌, ◌≤◌, drop, nat_lt, IfOk};
-ghost use Rattle.buffer_descriptor.specs.Descriptors.{end_of, fields_of};
+ghost use Rattle.buffer_descriptor.specs.Descriptors.{place_after, fields_of};
 ghost use Rattle.file_messages.specs.Messages as spec;
 
 use crate::layout::{DESCRIPTOR, REQUEST_HEADER};
@@ -69,7 +69,7 @@ fn share_a_byte(one: &Descriptor, other: &Descriptor) -> bool
 
 /// Whether one descriptor begins before the other one's end.
 fn begins_before_end(one: &Descriptor, other: &Descriptor) -> bool
-    ensures { result ≡ nat_lt one.now.offset (end_of other.now) }
+    ensures { result ≡ nat_lt one.now.offset (place_after other.now) }
 {
     one.offset < other.offset || one.offset - other.offset < u64::from(other.length)
 }

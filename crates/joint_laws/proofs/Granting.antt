@@ -10,7 +10,7 @@ use Rattle.smbd_base.specs.Balance.{IsBalanced, receives_due}
 use Rattle.smbd_base.specs.Grant.{credits_in}
 use Rattle.smbd_base.specs.NegotiateMessages.{Request, request_fields, response_bytes, answer_to, refusing_response}
 use Rattle.smbd_base.specs.Counts.{credits_held, receives_outstanding, receives_grantable, is_silent, is_unheard, peer_of}
-use Rattle.smbd_base.specs.History.{opening_frame, frame_due, peer_opening, pieces_waiting, is_response_owed, is_agreed, is_closed, is_opening, is_sending, is_version_refused, sends, IsLegal}
+use Rattle.smbd_base.specs.History.{negotiation_frame, frame_due, peer_negotiation, pieces_waiting, is_response_owed, is_agreed, is_closed, is_negotiating, is_sending, is_version_refused, sends, IsLegal}
 use Rattle.smbd_base.specs.Joint.{AreAccepted, emitted_frames, taken_frames}
 use Rattle.smbd_base.proofs.BalanceLemmas.{granted-data_frame_due}
 use Rattle.smbd_base.proofs.Inversion.{Emits, both, from_not, sending_parts}
@@ -46,34 +46,34 @@ response_is : (version : Bool) (first second : List ℕ) → version ≡ false �
 response_is version first second is = rw is refl
 
 grants_one : (limits : Limits) (past : List Event) (f : List ℕ) → IsLawful limits → IsBalanced Server limits past → AreAccepted Server limits past
-    → Emits Server limits past f → is_silent past ≡ true → is_unheard past ≡ false → 1 ≤ credits_in Server true (opening_frame Server limits past)
+    → Emits Server limits past f → is_silent past ≡ true → is_unheard past ≡ false → 1 ≤ credits_in Server true (negotiation_frame Server limits past)
 grants_one limits past f lawful b accepted e silent heard =
-    let request : Request = request_fields (peer_opening past) in
+    let request : Request = request_fields (peer_negotiation past) in
     let grantable : ℕ = receives_grantable Server past in
     let some : 1 ≤ receives_grantable Server past = can_grant limits past f lawful b e silent in
     let small : receives_grantable Server past < 65536 = omega (arith, b.posted, b.taken, lawful.credits.1) in
-    let asked : 1 ≤ (request_fields (peer_opening past)).credits_requested = (request_taken limits past accepted heard).credits_requested in
-    let granted : credits_in Server true (response_bytes (answer_to (request_fields (peer_opening past)) limits (receives_grantable Server past)))
-    ≡ min (request_fields (peer_opening past)).credits_requested (receives_grantable Server past) =
-    credits_in-response_bytes (answer_to (request_fields (peer_opening past)) limits (receives_grantable Server past))
-    (fits-answer limits (request_fields (peer_opening past)) (receives_grantable Server past) lawful small) in
+    let asked : 1 ≤ (request_fields (peer_negotiation past)).credits_requested = (request_taken limits past accepted heard).credits_requested in
+    let granted : credits_in Server true (response_bytes (answer_to (request_fields (peer_negotiation past)) limits (receives_grantable Server past)))
+    ≡ min (request_fields (peer_negotiation past)).credits_requested (receives_grantable Server past) =
+    credits_in-response_bytes (answer_to (request_fields (peer_negotiation past)) limits (receives_grantable Server past))
+    (fits-answer limits (request_fields (peer_negotiation past)) (receives_grantable Server past) lawful small) in
     let is = response_is (is_version_refused Server limits past) (response_bytes refusing_response)
-    (response_bytes (answer_to (request_fields (peer_opening past)) limits (receives_grantable Server past))) (no_version_refused Server limits past accepted) in
-    let one : 1 ≤ credits_in Server true (response_bytes (answer_to (request_fields (peer_opening past)) limits (receives_grantable Server past))) = omega (arith, granted, some, asked) in
+    (response_bytes (answer_to (request_fields (peer_negotiation past)) limits (receives_grantable Server past))) (no_version_refused Server limits past accepted) in
+    let one : 1 ≤ credits_in Server true (response_bytes (answer_to (request_fields (peer_negotiation past)) limits (receives_grantable Server past))) = omega (arith, granted, some, asked) in
     subst (λ (g : List ℕ). 1 ≤ credits_in Server true g) (sym is) one
 
 -- ---- any frame
 
 -- the opening frame: with a request the client spends a credit, and leaves that of the server, which is silent
 leaves_first : (side : EndId) (limits peer_limits : Limits) (own peer : List Event) (f : List ℕ) → IsLawful limits → IsBalanced side limits own → IsBalanced (peer_of side) peer_limits peer
-    → AreAccepted side limits own → IsLegal (peer_of side) peer_limits peer → IsPrefix (taken_frames peer) (emitted_frames own) → Emits side limits own f → is_opening side own ≡ true
-    → LeavesOne (credits_in side (is_silent own) (opening_frame side limits own)) (credits_held side own) (credits_held (peer_of side) peer)
+    → AreAccepted side limits own → IsLegal (peer_of side) peer_limits peer → IsPrefix (taken_frames peer) (emitted_frames own) → Emits side limits own f → is_negotiating side own ≡ true
+    → LeavesOne (credits_in side (is_silent own) (negotiation_frame side limits own)) (credits_held side own) (credits_held (peer_of side) peer)
 leaves_first Client limits peer_limits own peer f lawful b b' accepted legal to_peer e opening =
     record { why = inr (omega (arith, b.silent_held opening, b'.silent_held (both_silent peer_limits own peer legal to_peer opening))) }
 leaves_first Server limits peer_limits own peer f lawful b b' accepted legal to_peer e opening =
     let parts = both (is_silent own) _ opening in
     let one = grants_one limits own f lawful b accepted e parts.0 (from_not (is_unheard own) parts.1) in
-    record { why = inl (subst (λ (t : Bool). 1 ≤ credits_in Server t (opening_frame Server limits own)) (sym parts.0) one) }
+    record { why = inl (subst (λ (t : Bool). 1 ≤ credits_in Server t (negotiation_frame Server limits own)) (sym parts.0) one) }
 
 leaves_later : (side : EndId) (limits : Limits) (own : List Event) (there : ℕ) → IsLawful limits → IsBalanced side limits own → is_closed side limits own ≡ false
     → is_sending side limits own ≡ true → LeavesOne (credits_in side (is_silent own) (frame_due side limits own)) (credits_held side own) there

@@ -14,7 +14,7 @@ use Rattle.smbd_base.specs.Limits.{Limits}
 use Rattle.smbd_base.specs.NegotiateMessages.{request_fields, request_fault, fault_in_request, IsLawfulRequest}
 use Rattle.smbd_base.specs.DataFrame.{data_frame_of}
 use Rattle.smbd_base.specs.Counts.{frames_taken, is_silent, is_unheard, is_out_of_turn}
-use Rattle.smbd_base.specs.History.{take_fault, fault_expecting, negotiate_fault, data_fault, bytes_expected, peer_opening, is_agreed, is_welcomed, is_version_fault, is_server, is_version_refused, IsLegal}
+use Rattle.smbd_base.specs.History.{take_fault, fault_expecting, negotiate_fault, data_fault, bytes_expected, peer_negotiation, is_agreed, is_welcomed, is_version_fault, is_server, is_version_refused, IsLegal}
 use Rattle.smbd_base.specs.Joint.{AreAccepted, emitted_frames, taken_frames}
 use Rattle.smbd_base.proofs.Hearing.{spoken_heard}
 use Rattle.smbd_base.proofs.Inversion.{emits, both, from_not, in_turn}
@@ -88,14 +88,14 @@ unfolding request_fault
 faultless f e = lawful_request (request_fields f) (faultless_by (nat_lt (length f) 20) (fault_in_request (request_fields f)) e)
 
 -- it keeps the bounds of a request
-pub request_taken : (limits : Limits) (past : List Event) → AreAccepted Server limits past → is_unheard past ≡ false → IsLawfulRequest (request_fields (peer_opening past))
+pub request_taken : (limits : Limits) (past : List Event) → AreAccepted Server limits past → is_unheard past ≡ false → IsLawfulRequest (request_fields (peer_negotiation past))
 request_taken limits [] accepted some = absurd cc
 request_taken limits (Post n ∷ past) accepted some = request_taken limits past accepted some
 request_taken limits (Submit m ∷ past) accepted some = request_taken limits past accepted some
 request_taken limits (Emit f ∷ past) accepted some = request_taken limits past accepted some
 request_taken limits (Take f ∷ past) accepted some = by_test (is_unheard past) refl (request_taken limits past accepted.1) where
-  by_test : (t : Bool) → is_unheard past ≡ t → (is_unheard past ≡ false → IsLawfulRequest (request_fields (peer_opening past)))
-      → IsLawfulRequest (request_fields (cond t f (peer_opening past)))
+  by_test : (t : Bool) → is_unheard past ≡ t → (is_unheard past ≡ false → IsLawfulRequest (request_fields (peer_negotiation past)))
+      → IsLawfulRequest (request_fields (cond t f (peer_negotiation past)))
   by_test true is before = faultless f (first_accepted limits past f accepted.0 is)
   by_test false is before = before is
 request_taken limits (Cut ∷ past) accepted some = request_taken limits past accepted some

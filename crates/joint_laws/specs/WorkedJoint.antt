@@ -29,19 +29,19 @@ pub data Part : Type 0 where
   server_after : Part
 
 -- what this part says of two ends of these limits with these pasts
-abbrev pub Holds : Part → Limits → Limits → List Event → List Event → Type 0
-Holds client_legal client_limits server_limits client server = IsLegal Client client_limits client
-Holds server_legal client_limits server_limits client server = IsLegal Server server_limits server
-Holds client_accepted client_limits server_limits client server = AreAccepted Client client_limits client
-Holds server_accepted client_limits server_limits client server = AreAccepted Server server_limits server
-Holds to_client client_limits server_limits client server = IsPrefix (taken_frames client) (emitted_frames server)
-Holds to_server client_limits server_limits client server = IsPrefix (taken_frames server) (emitted_frames client)
-Holds client_credits client_limits server_limits client server = AreAccounted Client client_limits client server
-Holds server_credits client_limits server_limits client server = AreAccounted Server server_limits server client
-Holds credits_left client_limits server_limits client server =
+abbrev pub PartHolds : Part → Limits → Limits → List Event → List Event → Type 0
+PartHolds client_legal client_limits server_limits client server = IsLegal Client client_limits client
+PartHolds server_legal client_limits server_limits client server = IsLegal Server server_limits server
+PartHolds client_accepted client_limits server_limits client server = AreAccepted Client client_limits client
+PartHolds server_accepted client_limits server_limits client server = AreAccepted Server server_limits server
+PartHolds to_client client_limits server_limits client server = IsPrefix (taken_frames client) (emitted_frames server)
+PartHolds to_server client_limits server_limits client server = IsPrefix (taken_frames server) (emitted_frames client)
+PartHolds client_credits client_limits server_limits client server = AreAccounted Client client_limits client server
+PartHolds server_credits client_limits server_limits client server = AreAccounted Server server_limits server client
+PartHolds credits_left client_limits server_limits client server =
     frames_sent client + frames_sent server + 1 ≤ credits_granted Client client + credits_granted Server server
-Holds client_after client_limits server_limits client server = IsAfter client server
-Holds server_after client_limits server_limits client server = IsAfter server client
+PartHolds client_after client_limits server_limits client server = IsAfter client server
+PartHolds server_after client_limits server_limits client server = IsAfter server client
 
 -- the fact does not hold, or holds
 abbrev pub FailsOr : Bool → Type 0 → Type 0
@@ -50,7 +50,7 @@ FailsOr false fact = fact
 
 -- just these parts do not hold
 abbrev pub BreakJust : (Part → Bool) → Limits → Limits → List Event → List Event → Type 0
-BreakJust broken client_limits server_limits client server = (part : Part) → FailsOr (broken part) (Holds part client_limits server_limits client server)
+BreakJust broken client_limits server_limits client server = (part : Part) → FailsOr (broken part) (PartHolds part client_limits server_limits client server)
 
 -- ---- which parts a pair breaks
 
@@ -137,9 +137,9 @@ server_crossed = Emit (empty_frame 2) ∷ Post 1 ∷ Take (abc_granting 1) ∷ P
 pub record JoinSo : Type 0 where
   -- the parts are all that `AreJoint` says
   pub parts : (client_limits server_limits : Limits) (client server : List Event) (part : Part)
-      → AreJoint client_limits server_limits client server → Holds part client_limits server_limits client server
+      → AreJoint client_limits server_limits client server → PartHolds part client_limits server_limits client server
   pub whole : (client_limits server_limits : Limits) (client server : List Event)
-      → ((part : Part) → Holds part client_limits server_limits client server) → AreJoint client_limits server_limits client server
+      → ((part : Part) → PartHolds part client_limits server_limits client server) → AreJoint client_limits server_limits client server
   -- two ends that were just opened; and two with a frame in flight
   pub opened : AreJoint three three opened opened
   pub in_flight : AreJoint three three client_of_two server_of_one

@@ -3,8 +3,8 @@ use Rattle.std.proofs.Common.{◌≡◌, ◌⊎◌, inl, inr, ℕ, ◌+◌, ◌<
 use Rattle.std.specs.List.{flat_map}
 use Rattle.std.proofs.lemmas.List.{length-append}
 use Rattle.std.proofs.lemmas.List.Elements.{All-head, All-tail}
-use Rattle.smbd_base.specs.Pieces.{Piece, gather_fault, joined, IsRun, IsWhole, AreWhole, AreFilled, SplitsInto}
-use Rattle.reassembly.specs.Gathering.{Gathering, AreAccepted, opened, messages_gathered, gathered_so, with_accepted}
+use Rattle.smbd_base.specs.Pieces.{Piece, gather_fault, joined, IsUnbroken, IsWhole, AreWhole, AreFilled, SplitsInto}
+use Rattle.reassembly.specs.Gathering.{Gathering, PiecesAreAccepted, opened, messages_gathered, gathered_so, with_accepted}
 use Rattle.reassembly.proofs.Accepted.{begun_fits, first_fits, fits-accepted, message_of-more, message_of-last, with_accepted-more, with_accepted-last}
 
 -- a gatherer that has not failed
@@ -13,7 +13,7 @@ at max begun expected = record { max = max; begun = begun; expected = expected; 
 
 -- none of the pieces is refused, the messages are these, and the gatherer stands so then
 record Gathers (g : Gathering) (pieces : List Piece) (messages : List (List ℕ)) (then : Gathering) : Type 0 where
-  accepted : AreAccepted g pieces
+  accepted : PiecesAreAccepted g pieces
   messages_are : messages_gathered g pieces ≡ messages
   stands : gathered_so g pieces ≡ then
 
@@ -46,7 +46,7 @@ gathers_last max expected begun p later messages then last fits h =
 abbrev Awaited : ℕ → ℕ → List Piece → Type 0
 Awaited max expected run = ((expected ≡ 0) × (length (joined run) ≤ max)) ⊎ ((0 < expected) × (expected ≡ length (joined run)))
 
-awaited-fits : (max expected : ℕ) (p : Piece) (later : List Piece) → IsRun 0 (p ∷ later) → Awaited max expected (p ∷ later) → gather_fault max expected (length p.payload) p.remaining ≡ None
+awaited-fits : (max expected : ℕ) (p : Piece) (later : List Piece) → IsUnbroken 0 (p ∷ later) → Awaited max expected (p ∷ later) → gather_fault max expected (length p.payload) p.remaining ≡ None
 awaited-fits max expected p later r (inl first) =
     let long : length (joined (p ∷ later)) ≡ length p.payload + length (joined later) = length-append p.payload (joined later) in
     rw first.0 (first_fits max (length p.payload) p.remaining (omega (arith, r.0, first.1)))
@@ -91,7 +91,7 @@ gathers_runs max (run ∷ runs) whole filled short =
 -- pieces that split into messages which are not too long, with no rest
 pub gathers_split : (max : ℕ) (pieces : List Piece) (messages : List (List ℕ)) → AreFilled pieces → SplitsInto pieces messages [] 0
     → All (λ (message : List ℕ). length message ≤ max) messages
-    → AreAccepted (opened max) pieces × (messages_gathered (opened max) pieces ≡ messages) × (gathered_so (opened max) pieces ≡ opened max)
+    → PiecesAreAccepted (opened max) pieces × (messages_gathered (opened max) pieces ≡ messages) × (gathered_so (opened max) pieces ≡ opened max)
 gathers_split max pieces messages filled s short =
     let all : pieces ≡ pieces_in s.runs = s.all ∙ append-nil (pieces_in s.runs) in
     let h = gathers_runs max s.runs s.whole (rw all at filled) (rw s.each at short) in

@@ -28,15 +28,15 @@ abbrev pub piece_of : List ℕ → ℕ → Piece
 piece_of bytes remaining = record { payload = bytes; remaining = remaining }
 
 -- the fault that a piece has for this
-abbrev pub fault_for : Broken → GatherFault
-fault_for (broken.Total expected found) = faults.Total expected found
-fault_for (broken.TooLong total max) = faults.TooLong total max
+abbrev pub gather_fault_for : Broken → GatherFault
+gather_fault_for (broken.Total expected found) = faults.Total expected found
+gather_fault_for (broken.TooLong total max) = faults.TooLong total max
 
 -- the fault of a piece that does not fit, or of every piece once one did not
 abbrev pub first_fault : Option Broken → Option Broken → Option GatherFault
 first_fault (Some earlier) here = Some (faults.Failed earlier)
 first_fault None None = None
-first_fault None (Some here) = Some (fault_for here)
+first_fault None (Some here) = Some (gather_fault_for here)
 
 -- why a piece does not fit what is begun
 abbrev pub misfit : Gathering → Piece → Option Broken
@@ -71,9 +71,9 @@ IsRefused old p fault new =
 -- ---- one piece after another
 
 -- none of these pieces is refused
-abbrev pub AreAccepted : Gathering → List Piece → Type 0
-AreAccepted g [] = Unit {0}
-AreAccepted g (p ∷ later) = (piece_fault g p ≡ None) × AreAccepted (with_accepted g p) later
+abbrev pub PiecesAreAccepted : Gathering → List Piece → Type 0
+PiecesAreAccepted g [] = Unit {0}
+PiecesAreAccepted g (p ∷ later) = (piece_fault g p ≡ None) × PiecesAreAccepted (with_accepted g p) later
 
 -- the messages that they end
 abbrev pub messages_gathered : Gathering → List Piece → List (List ℕ)

@@ -35,9 +35,9 @@ impl From<AllocError> for GatherFault {
 }
 
 impl From<Broken> for GatherFault {
-    ghost use Rattle.reassembly.specs.Gathering.{fault_for};
+    ghost use Rattle.reassembly.specs.Gathering.{gather_fault_for};
 
-    ghost from_gives = { λ broken e. e ≡ fault_for broken };
+    ghost from_gives = { λ broken e. e ≡ gather_fault_for broken };
 
     fn from(broken: Broken) -> GatherFault {
         match broken {

@@ -5,7 +5,7 @@ use Rattle.smbd_base.specs.declared.right.Right.TheVariants as right
 use Rattle.smbd_base.specs.Tokens.{PageToken, token_of}
 use Rattle.smbd_base.specs.Pages.{page_at}
 use Rattle.buffer_descriptor.specs.declared.descriptor.Descriptor.{Descriptor}
-use Rattle.buffer_descriptor.specs.Descriptors.{end_of}
+use Rattle.buffer_descriptor.specs.Descriptors.{place_after}
 use Rattle.page_slots.specs.declared.answers.Access.{Access}
 use Rattle.page_slots.specs.declared.answers.Access.TheVariants as accesses
 use Rattle.page_slots.specs.Answers.{fetch_answer, place_answer}
@@ -25,7 +25,7 @@ is_right right.Place right.Place = true
 
 -- the descriptor's interval lies in the record's
 abbrev pub is_covered : Record → Descriptor → Bool
-is_covered entry descriptor = nat_le entry.base descriptor.offset && nat_le (end_of descriptor) (entry.base + entry.length)
+is_covered entry descriptor = nat_le entry.base descriptor.offset && nat_le (place_after descriptor) (entry.base + entry.length)
 
 -- what the page answered
 abbrev pub of_access : Access → Remote

@@ -11,7 +11,7 @@ use Rattle.event_log.specs.Lines.{logged, HasLawfulNumbers}
 use Rattle.smbd_base.specs.Limits.{Limits, IsLawful}
 use Rattle.smbd_base.specs.Counts.{peer_of}
 use Rattle.world_core.specs.Run.{State, AreJointIn}
-use Rattle.run_log.specs.RunLines.{side_of, next_number, newest_line, before_newest, lines_in, run_lines, is_of, AreTellable}
+use Rattle.run_log.specs.RunLines.{side_of, next_frame_number, newest_line, before_newest, lines_in_order, run_lines, is_of, AreTellable}
 use Rattle.run_log.specs.Runs.{IsRun}
 use Rattle.run_log.proofs.Ordering.{count_own, count_other, ordered, few_events}
 use Rattle.run_log.proofs.Tellable.{taken_few, client_tellable, server_tellable}
@@ -43,7 +43,7 @@ tellable_back end [] past h = h
 tellable_back end (event ∷ front) past h = tellable_back end front past h.1
 
 pub tellable_at : (end : EndId) (history : List Event) (i : ℕ) (event : Event) → i < length history → event ≡ get_or history i event → AreTellable end (reverse history)
-    → HasLawfulNumbers (side_of end) (logged (next_number (reverse (take i history))) event)
+    → HasLawfulNumbers (side_of end) (logged (next_frame_number (reverse (take i history))) event)
 tellable_at end history i event within is h =
     let back = tellable_back end (reverse (drop (i + 1) history)) (reverse (take (i + 1) history))
     (subst (λ (p : List Event). AreTellable end p) (apart history (i + 1)) h) in
@@ -64,7 +64,7 @@ named_before end order i all within is count =
 -- what is told of an end, where the order so far is this one: so many events, and the number of the next frame
 pub record IsTold (end : EndId) (order : List EndId) (history : List Event) (events next : ℕ) : Type 0 where
   pub events_is : events ≡ count_by (is_of end) order
-  pub next_is : next ≡ next_number (reverse (take events history))
+  pub next_is : next ≡ next_frame_number (reverse (take events history))
 
 -- the named end has an event that was not told
 pub next_there : (end : EndId) (order : List EndId) (i : ℕ) (history : List Event) (events next : ℕ) → i < length order → end ≡ get_or order i end
@@ -74,11 +74,11 @@ next_there end order i history events next within is all told =
 
 -- the end that is named has told one event more
 pub told_own : (end : EndId) (order : List EndId) (i : ℕ) (history : List Event) (events next events' next' : ℕ) → i < length order → end ≡ get_or order i end
-    → IsTold end (reverse (take i order)) history events next → events' ≡ events + 1 → next' ≡ next_number (reverse (take (events + 1) history))
+    → IsTold end (reverse (take i order)) history events next → events' ≡ events + 1 → next' ≡ next_frame_number (reverse (take (events + 1) history))
     → IsTold end (reverse (take (i + 1) order)) history events' next'
 told_own end order i history events next events' next' within is told events_more next_more = record {
   events_is = rw (one_more order i end within is) (omega (arith, told.events_is, count_own end (reverse (take i order))));
-  next_is = next_more ∙ ap (λ (n : ℕ). next_number (reverse (take n history))) (sym events_more);
+  next_is = next_more ∙ ap (λ (n : ℕ). next_frame_number (reverse (take n history))) (sym events_more);
 }
 
 -- and the other one none
@@ -96,20 +96,20 @@ before_last history i within = ap (λ (p : List Event). before_newest p) (one_mo
 -- the lines so far, with one more
 pub client_more : (order : List EndId) (i : ℕ) (client : List Event) (at at' : ℕ) (past : List Event) (lines more : List (List ℕ)) (line : List ℕ)
     → i < length order → Client ≡ get_or order i Client → at < length client → at' ≡ at + 1
-    → lines ≡ lines_in (reverse (take i order)) (reverse (take at client)) past → line ∷ [] ≡ newest_line Client (reverse (take (at + 1) client))
-    → more ≡ lines ++ line ∷ [] → more ≡ lines_in (reverse (take (i + 1) order)) (reverse (take at' client)) past
+    → lines ≡ lines_in_order (reverse (take i order)) (reverse (take at client)) past → line ∷ [] ≡ newest_line Client (reverse (take (at + 1) client))
+    → more ≡ lines ++ line ∷ [] → more ≡ lines_in_order (reverse (take (i + 1) order)) (reverse (take at' client)) past
 client_more order i client at at' past lines more line within is there next so_far newest added =
     rw (one_more order i Client within is, next, before_last client at there) (added ∙ rw (so_far, newest) refl)
 
 pub server_more : (order : List EndId) (i : ℕ) (server : List Event) (at at' : ℕ) (past : List Event) (lines more : List (List ℕ)) (line : List ℕ)
     → i < length order → Server ≡ get_or order i Server → at < length server → at' ≡ at + 1
-    → lines ≡ lines_in (reverse (take i order)) past (reverse (take at server)) → line ∷ [] ≡ newest_line Server (reverse (take (at + 1) server))
-    → more ≡ lines ++ line ∷ [] → more ≡ lines_in (reverse (take (i + 1) order)) past (reverse (take at' server))
+    → lines ≡ lines_in_order (reverse (take i order)) past (reverse (take at server)) → line ∷ [] ≡ newest_line Server (reverse (take (at + 1) server))
+    → more ≡ lines ++ line ∷ [] → more ≡ lines_in_order (reverse (take (i + 1) order)) past (reverse (take at' server))
 server_more order i server at at' past lines more line within is there next so_far newest added =
     rw (one_more order i Server within is, next, before_last server at there) (added ∙ rw (so_far, newest) refl)
 
 -- the number of a frame has room for one more
-pub next_small : (history : List Event) (events next : ℕ) → next ≡ next_number (reverse (take events history)) → length history < 2 ^ 61 + 2 → next + 1 < 2 ^ 64
+pub next_small : (history : List Event) (events next : ℕ) → next ≡ next_frame_number (reverse (take events history)) → length history < 2 ^ 61 + 2 → next + 1 < 2 ^ 64
 next_small history events next is few =
     omega (arith, taken_few (reverse (take events history)), length-reverse (take events history), length-take events history)
 
@@ -122,7 +122,7 @@ whole xs past n is long =
 pub all_told : (state : State) (run : IsRun state) (order : List EndId) (client server : List Event) (i at_client at_server next_client next_server : ℕ) (lines : List (List ℕ))
     → reverse order ≡ state.order → reverse client ≡ state.client → reverse server ≡ state.server → length order ≤ i
     → IsTold Client (reverse (take i order)) client at_client next_client → IsTold Server (reverse (take i order)) server at_server next_server
-    → lines ≡ lines_in (reverse (take i order)) (reverse (take at_client client)) (reverse (take at_server server)) → lines ≡ run_lines state
+    → lines ≡ lines_in_order (reverse (take i order)) (reverse (take at_client client)) (reverse (take at_server server)) → lines ≡ run_lines state
 all_told state run order client server i at_client at_server next_client next_server lines order_is client_is server_is ended client_told server_told so_far =
     let h = ordered state run in
     let all : reverse (take i order) ≡ state.order = ap reverse (take_all i order ended) ∙ order_is in

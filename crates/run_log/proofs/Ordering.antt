@@ -17,7 +17,7 @@ use Rattle.event_log.proofs.WrittenLines.{line_text-words}
 use Rattle.world_core.specs.declared.choice.Choice.{Choice}
 use Rattle.world_core.specs.Choices.{end_of}
 use Rattle.world_core.specs.Run.{State, past_of, event_chosen, state_after, step_of, opened_world, run_of}
-use Rattle.run_log.specs.RunLines.{newest_line, before_newest, line_added, next_number, lines_in, run_lines, history_lines, is_line_of, is_of}
+use Rattle.run_log.specs.RunLines.{newest_line, before_newest, line_added, next_frame_number, lines_in_order, run_lines, history_lines, is_line_of, is_of}
 use Rattle.run_log.specs.Runs.{IsRun}
 
 -- ---- how often an order names an end
@@ -130,16 +130,16 @@ few_events state run =
 own_line : (end : EndId) (past : List Event) → filter (is_line_of end) (newest_line end past) ≡ newest_line end past
 own_line Client [] = refl
 own_line Server [] = refl
-own_line Client (event ∷ past) = rw (line_text-words C (logged (next_number past) event)) refl
-own_line Server (event ∷ past) = rw (line_text-words S (logged (next_number past) event)) refl
+own_line Client (event ∷ past) = rw (line_text-words C (logged (next_frame_number past) event)) refl
+own_line Server (event ∷ past) = rw (line_text-words S (logged (next_frame_number past) event)) refl
 
 no_server_line : (past : List Event) → filter (is_line_of Client) (newest_line Server past) ≡ []
 no_server_line [] = refl
-no_server_line (event ∷ past) = rw (line_text-words S (logged (next_number past) event)) refl
+no_server_line (event ∷ past) = rw (line_text-words S (logged (next_frame_number past) event)) refl
 
 no_client_line : (past : List Event) → filter (is_line_of Server) (newest_line Client past) ≡ []
 no_client_line [] = refl
-no_client_line (event ∷ past) = rw (line_text-words C (logged (next_number past) event)) refl
+no_client_line (event ∷ past) = rw (line_text-words C (logged (next_frame_number past) event)) refl
 
 with_own : (end : EndId) (lines more : List (List ℕ)) (past : List Event) → filter (is_line_of end) lines ≡ more → filter (is_line_of end) (lines ++ newest_line end past) ≡ more ++ newest_line end past
 with_own end lines more past is =
@@ -152,39 +152,39 @@ with_other end lines other more none is =
     ∙ ap (λ (ls : List (List ℕ)). more ++ ls) none ∙ append-nil more
 
 pub client_lines : (order : List EndId) (client server : List Event) → count_by (is_of Client) order ≡ length client
-    → filter (is_line_of Client) (lines_in order client server) ≡ history_lines Client client
+    → filter (is_line_of Client) (lines_in_order order client server) ≡ history_lines Client client
 client_lines [] [] server count = refl
 client_lines [] (event ∷ client) server count = absurd (omega arith)
 client_lines (Client ∷ order) [] server count = absurd (omega (arith, count_own Client order))
 client_lines (Client ∷ order) (event ∷ client) server count =
-    with_own Client (lines_in order client server) (history_lines Client client) (event ∷ client) (client_lines order client server (omega (arith, count_own Client order)))
+    with_own Client (lines_in_order order client server) (history_lines Client client) (event ∷ client) (client_lines order client server (omega (arith, count_own Client order)))
 client_lines (Server ∷ order) client server count =
-    with_other Client (lines_in order client (before_newest server)) (newest_line Server server) (history_lines Client client) (no_server_line server)
+    with_other Client (lines_in_order order client (before_newest server)) (newest_line Server server) (history_lines Client client) (no_server_line server)
     (client_lines order client (before_newest server) (omega (arith, count_other Client order)))
 
 pub server_lines : (order : List EndId) (client server : List Event) → count_by (is_of Server) order ≡ length server
-    → filter (is_line_of Server) (lines_in order client server) ≡ history_lines Server server
+    → filter (is_line_of Server) (lines_in_order order client server) ≡ history_lines Server server
 server_lines [] client [] count = refl
 server_lines [] client (event ∷ server) count = absurd (omega arith)
 server_lines (Server ∷ order) client [] count = absurd (omega (arith, count_own Server order))
 server_lines (Server ∷ order) client (event ∷ server) count =
-    with_own Server (lines_in order client server) (history_lines Server server) (event ∷ server) (server_lines order client server (omega (arith, count_own Server order)))
+    with_own Server (lines_in_order order client server) (history_lines Server server) (event ∷ server) (server_lines order client server (omega (arith, count_own Server order)))
 server_lines (Client ∷ order) client server count =
-    with_other Server (lines_in order (before_newest client) server) (newest_line Client client) (history_lines Server server) (no_client_line client)
+    with_other Server (lines_in_order order (before_newest client) server) (newest_line Client client) (history_lines Server server) (no_client_line client)
     (server_lines order (before_newest client) server (omega (arith, count_other Server order)))
 
 -- each event has its line
 pub all_lines : (order : List EndId) (client server : List Event) → count_by (is_of Client) order ≡ length client → count_by (is_of Server) order ≡ length server
-    → length (lines_in order client server) ≡ length client + length server
+    → length (lines_in_order order client server) ≡ length client + length server
 all_lines [] [] [] count count' = refl
 all_lines [] (event ∷ client) server count count' = absurd (omega arith)
 all_lines [] [] (event ∷ server) count count' = absurd (omega arith)
 all_lines (Client ∷ order) [] server count count' = absurd (omega (arith, count_own Client order, count_other Server order))
 all_lines (Client ∷ order) (event ∷ client) server count count' =
-    omega (arith, length-append (lines_in order client server) (newest_line Client (event ∷ client)), all_lines order client server (omega (arith, count_own Client order, count_other Server order)) (omega (arith, count_own Client order, count_other Server order)))
+    omega (arith, length-append (lines_in_order order client server) (newest_line Client (event ∷ client)), all_lines order client server (omega (arith, count_own Client order, count_other Server order)) (omega (arith, count_own Client order, count_other Server order)))
 all_lines (Server ∷ order) client [] count count' = absurd (omega (arith, count_other Client order, count_own Server order))
 all_lines (Server ∷ order) client (event ∷ server) count count' =
-    omega (arith, length-append (lines_in order client server) (newest_line Server (event ∷ server)), all_lines order client server (omega (arith, count_other Client order, count_own Server order)) (omega (arith, count_other Client order, count_own Server order)))
+    omega (arith, length-append (lines_in_order order client server) (newest_line Server (event ∷ server)), all_lines order client server (omega (arith, count_other Client order, count_own Server order)) (omega (arith, count_other Client order, count_own Server order)))
 
 -- ---- of a run
 

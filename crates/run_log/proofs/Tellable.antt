@@ -14,7 +14,7 @@ use Rattle.smbd_base.specs.Counts.{receives_grantable}
 use Rattle.smbd_base.specs.DataFrame.{DataFrame, data_frame_of}
 use Rattle.smbd_base.specs.Joint.{AreLinked, emitted_frames, taken_frames}
 use Rattle.smbd_base.specs.NegotiateMessages.{request_fields, response_bytes, answer_to, refusing_response}
-use Rattle.smbd_base.specs.History.{messages_submitted, opening_frame, peer_opening, is_version_refused, IsLegal}
+use Rattle.smbd_base.specs.History.{messages_submitted, negotiation_frame, peer_negotiation, is_version_refused, IsLegal}
 use Rattle.smbd_base.proofs.Inversion.{posts}
 use Rattle.smbd_laws.proofs.Fitting.{AreShort}
 use Rattle.smbd_laws.proofs.Joining.{AreSome}
@@ -59,11 +59,11 @@ sound_fit longest (f ∷ frames) few sound =
     (record { low = omega (arith, long_enough f sound.0.read); high = omega (arith, sound.0.short) }, sound_fit longest frames few sound.1)
 
 response_fits : (version : Bool) (limits : Limits) (past : List Event)
-    → FitsLine (cond version (response_bytes refusing_response) (response_bytes (answer_to (request_fields (peer_opening past)) limits (receives_grantable Server past))))
+    → FitsLine (cond version (response_bytes refusing_response) (response_bytes (answer_to (request_fields (peer_negotiation past)) limits (receives_grantable Server past))))
 response_fits true limits past = record { low = lit≤ tt; high = lit≤ tt }
 response_fits false limits past = record { low = lit≤ tt; high = lit≤ tt }
 
-opening_fits : (end : EndId) (limits : Limits) (past : List Event) → FitsLine (opening_frame end limits past)
+opening_fits : (end : EndId) (limits : Limits) (past : List Event) → FitsLine (negotiation_frame end limits past)
 opening_fits Client limits past = record { low = lit≤ tt; high = lit≤ tt }
 opening_fits Server limits past = response_fits (is_version_refused Server limits past) limits past
 

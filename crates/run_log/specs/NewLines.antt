@@ -4,7 +4,7 @@ use Rattle.smbd_base.specs.declared.end_id.EndId.{EndId}
 use Rattle.smbd_base.specs.declared.event.Event.{Event}
 use Rattle.event_log.specs.Lines.{lines_text}
 use Rattle.run_log.specs.declared.telling.Told.{Told}
-use Rattle.run_log.specs.RunLines.{event_line, next_number, number_after}
+use Rattle.run_log.specs.RunLines.{event_line, next_frame_number, number_after}
 
 -- the lines of events in the order of time, the first frame that is taken having this number
 abbrev pub lines_from : EndId → ℕ → List Event → List (List ℕ)
@@ -31,4 +31,4 @@ told_after told history = record { events = length history; next = number_after_
 
 -- what is told of a past, the newest event first, where all of it is told
 abbrev pub told_of : List Event → Told
-told_of past = record { events = length past; next = next_number past }
+told_of past = record { events = length past; next = next_frame_number past }

@@ -17,8 +17,8 @@ side_of Client = C
 side_of Server = S
 
 -- the number of the next frame that is taken, from 1
-abbrev pub next_number : List Event → ℕ
-next_number past = length (taken_frames past) + 1
+abbrev pub next_frame_number : List Event → ℕ
+next_frame_number past = length (taken_frames past) + 1
 
 -- the line of an event; a frame that is taken has this number
 abbrev pub event_line : EndId → ℕ → Event → List ℕ
@@ -27,7 +27,7 @@ event_line end number event = line_text (side_of end) (logged number event)
 -- the line of the newest event of a past, where there is one
 abbrev pub newest_line : EndId → List Event → List (List ℕ)
 newest_line end [] = []
-newest_line end (event ∷ past) = event_line end (next_number past) event ∷ []
+newest_line end (event ∷ past) = event_line end (next_frame_number past) event ∷ []
 
 -- the events before the newest one
 abbrev pub before_newest : List Event → List Event
@@ -35,14 +35,14 @@ before_newest [] = []
 before_newest (event ∷ past) = past
 
 -- The lines of two pasts, the oldest one first. The order says whose event each one was, the newest one first.
-abbrev pub lines_in : List EndId → List Event → List Event → List (List ℕ)
-lines_in [] client server = []
-lines_in (Client ∷ order) client server = lines_in order (before_newest client) server ++ newest_line Client client
-lines_in (Server ∷ order) client server = lines_in order client (before_newest server) ++ newest_line Server server
+abbrev pub lines_in_order : List EndId → List Event → List Event → List (List ℕ)
+lines_in_order [] client server = []
+lines_in_order (Client ∷ order) client server = lines_in_order order (before_newest client) server ++ newest_line Client client
+lines_in_order (Server ∷ order) client server = lines_in_order order client (before_newest server) ++ newest_line Server server
 
 -- the lines of a run, each without its line feed
 abbrev pub run_lines : State → List (List ℕ)
-run_lines state = lines_in state.order state.client state.server
+run_lines state = lines_in_order state.order state.client state.server
 
 -- the line that an event adds, where there is one, after the past of its end
 abbrev pub line_added : EndId → List Event → Option Event → List (List ℕ)
@@ -77,7 +77,7 @@ is_of Server Server = true
 -- the line of each event can be written and read
 abbrev pub AreTellable : EndId → List Event → Type 0
 AreTellable end [] = Unit {0}
-AreTellable end (event ∷ past) = HasLawfulNumbers (side_of end) (logged (next_number past) event) × AreTellable end past
+AreTellable end (event ∷ past) = HasLawfulNumbers (side_of end) (logged (next_frame_number past) event) × AreTellable end past
 
 -- the number of the next frame that is taken, after one more event
 abbrev pub number_after : ℕ → Event → ℕ

@@ -3,7 +3,7 @@
 ghost use Rattle.std.specs.Prelude.{◌≡◌, ◌+◌, ◌<◌, ◌^◌, [], ◌∷◌, List, length, take, reverse, IfOk, OnOk};
 ghost use Rattle.world_core.specs.Run.{past_of};
 ghost use Rattle.run_log.specs.RunLines as spec;
-ghost use Rattle.run_log.specs.RunLines.{run_lines, newest_line, next_number, AreTellable};
+ghost use Rattle.run_log.specs.RunLines.{run_lines, newest_line, next_frame_number, AreTellable};
 ghost use Rattle.run_log.specs.Runs.{IsRun};
 
 use event_log::{Line, Side, line_of};
@@ -56,12 +56,12 @@ fn next_line(
     told: &mut Told,
 ) -> Result<Line, NoMemory>
     requires more { told.old.events < length history.now }
-    requires next { told.old.next ≡ next_number (reverse (take told.old.events history.now)) }
+    requires next { told.old.next ≡ next_frame_number (reverse (take told.old.events history.now)) }
     requires few { length history.now < 2 ^ 61 + 2 }
     requires tellable { AreTellable end (reverse history.now) }
     ensures line { IfOk result (λ line. line ∷ [] ≡ newest_line end (reverse (take (told.old.events + 1) history.now))) }
     ensures events { OnOk result (told.new.events ≡ told.old.events + 1) }
-    ensures next { OnOk result (told.new.next ≡ next_number (reverse (take (told.old.events + 1) history.now))) }
+    ensures next { OnOk result (told.new.next ≡ next_frame_number (reverse (take (told.old.events + 1) history.now))) }
 {
     let event = &history[told.events];
     let line = line_of(alloc, side_of(end), event, told.next)?;

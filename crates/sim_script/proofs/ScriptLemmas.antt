@@ -8,7 +8,7 @@ use Rattle.world_core.specs.declared.choice.Choice.{Choice}
 use Rattle.world_core.specs.Run.{State, step_of}
 use Rattle.sim_script.specs.declared.script_line.ScriptLine.{ScriptLine}
 use Rattle.sim_script.specs.declared.fault.ScriptFault.TheVariants.{NoMemory}
-use Rattle.sim_script.specs.Scripts.{lines_in, IsLawfulLine, line_text, script_line, bad_line_from, first_bad_line, counted_bytes, choice_of, choices_in, script_of, IsFaultOf}
+use Rattle.sim_script.specs.Scripts.{lines_in, IsLawfulLine, line_text, script_line, bad_line_from, first_bad_line, counted_bytes, choice_of, choices_in, script_of, IsScriptFault}
 use Rattle.sim_script.proofs.LineLemmas.{lines_in-ended}
 use Rattle.sim_script.proofs.WrittenLines.{read_back, no_feed_in}
 
@@ -68,7 +68,7 @@ bad_line-least number found (line ∷ lines) h = pick (script_line line) (bad_li
 -- past a good first line memory may be wanting
 pub past_good_line : (text rest after line : List ℕ) (number : ℕ) (said : ScriptLine) → first_bad_line text ≡ bad_line_from (number + 1) (lines_in rest)
     → lines_in rest ≡ line ∷ lines_in after → Some said ≡ script_line line → length after < length rest → number + length rest ≤ length text
-    → IsFaultOf NoMemory text
+    → IsScriptFault NoMemory text
 past_good_line text rest after line number said bad all good shorter fits =
     let later : first_bad_line text ≡ bad_line_from (number + 1 + 1) (lines_in after) =
     bad ∙ ap (bad_line_from (number + 1)) all ∙ bad_line-good (number + 1) line (lines_in after) said (sym good) in

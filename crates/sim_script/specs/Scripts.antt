@@ -129,9 +129,9 @@ script_of text = choices_in (lines_in text)
 
 -- Why a text was not read: its first bad line. Want of memory is no fault of the text; it comes only past a first line
 -- that is good.
-abbrev pub IsFaultOf : ScriptFault → List ℕ → Type 0
-IsFaultOf (faults.Line number) text = first_bad_line text ≡ Some number
-IsFaultOf faults.NoMemory text = (0 < length text) × (first_bad_line text ≢ Some 1)
+abbrev pub IsScriptFault : ScriptFault → List ℕ → Type 0
+IsScriptFault (faults.Line number) text = first_bad_line text ≡ Some number
+IsScriptFault faults.NoMemory text = (0 < length text) × (first_bad_line text ≢ Some 1)
 
 -- Why the script of a text was not run: its first bad line. Want of memory comes only where no line is bad.
 abbrev pub IsRunFault : ScriptFault → List ℕ → Type 0

@@ -20,7 +20,7 @@ pub fn read_script(alloc: Global, text: &[u8]) -> Result<Vec<Choice>, ScriptFaul
     ensures few { IfOk result (λ choices. length choices.items ≤ length text.now) }
 
     // A number is given for the first bad line alone. Want of memory never hides that the first line is bad.
-    ensures fault { IfErr result (λ fault. spec.IsFaultOf fault text.now) }
+    ensures fault { IfErr result (λ fault. spec.IsScriptFault fault text.now) }
 {
     let mut choices = Vec::new(alloc);
     let mut rest = text;

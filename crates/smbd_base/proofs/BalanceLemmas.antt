@@ -10,7 +10,7 @@ use Rattle.smbd_base.specs.Limits.{Limits, IsLawful}
 use Rattle.smbd_base.specs.Grant.{credits_in}
 use Rattle.smbd_base.specs.Pieces.{Piece}
 use Rattle.smbd_base.specs.Counts.{frames_sent, frames_taken, credits_earned, credits_held, receives_outstanding, receives_grantable, is_silent, is_unheard, is_early, is_out_of_turn, peer_of}
-use Rattle.smbd_base.specs.History.{opening_frame, peer_opening, data_frame_due, pieces_waiting, is_response_owed, is_cut, is_new, is_version_fault, is_server, is_version_refused, is_closed, is_post_due, is_opening, is_agreed, is_ready, sends, MayFollow, IsLegal}
+use Rattle.smbd_base.specs.History.{negotiation_frame, peer_negotiation, data_frame_due, pieces_waiting, is_response_owed, is_cut, is_new, is_version_fault, is_server, is_version_refused, is_closed, is_post_due, is_negotiating, is_agreed, is_ready, sends, MayFollow, IsLegal}
 use Rattle.smbd_base.specs.NegotiateMessages.{Request, request_fields, response_bytes, answer_to, refusing_response}
 use Rattle.smbd_base.specs.Balance.{IsBalanced, IsNeverFull, receives_due}
 use Rattle.smbd_base.proofs.FrameLaws.{credits_in-frame_bytes}
@@ -19,7 +19,7 @@ use Rattle.smbd_base.proofs.Inversion.{Emits, CanTake, emits, posts, both, sendi
 
 -- ---- what a frame that is sent grants
 
-pub silent_opening : (side : EndId) (past : List Event) → is_opening side past ≡ true → is_silent past ≡ true
+pub silent_opening : (side : EndId) (past : List Event) → is_negotiating side past ≡ true → is_silent past ≡ true
 silent_opening Client past opening = opening
 silent_opening Server past opening = (both (is_silent past) _ opening).0
 
@@ -39,14 +39,14 @@ grants_answer limits request grantable lawful small =
     omega (arith, is)
 
 grants_response : (limits : Limits) (past : List Event) (version : Bool) → IsLawful limits → receives_grantable Server past < 65536
-    → credits_in Server true (cond version (response_bytes refusing_response) (response_bytes (answer_to (request_fields (peer_opening past)) limits (receives_grantable Server past))))
+    → credits_in Server true (cond version (response_bytes refusing_response) (response_bytes (answer_to (request_fields (peer_negotiation past)) limits (receives_grantable Server past))))
     ≤ receives_grantable Server past
 grants_response limits past true lawful small = omega arith
-grants_response limits past false lawful small = grants_answer limits (request_fields (peer_opening past)) (receives_grantable Server past) lawful small
+grants_response limits past false lawful small = grants_answer limits (request_fields (peer_negotiation past)) (receives_grantable Server past) lawful small
 
 -- what the opening frame grants can be granted
 grants_opening : (side : EndId) (limits : Limits) (past : List Event) → IsLawful limits → IsBalanced side limits past → is_silent past ≡ true
-    → credits_in side (is_silent past) (opening_frame side limits past) ≤ receives_grantable side past
+    → credits_in side (is_silent past) (negotiation_frame side limits past) ≤ receives_grantable side past
 grants_opening Client limits past lawful b silent = rw silent (omega arith)
 grants_opening Server limits past lawful b silent =
     rw silent (grants_response limits past (is_version_refused Server limits past) lawful (omega (arith, b.posted, b.taken, lawful.credits.1)))

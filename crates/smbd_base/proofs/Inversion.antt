@@ -8,7 +8,7 @@ use Rattle.smbd_base.specs.Limits.{Limits}
 use Rattle.smbd_base.specs.declared.faults.TakeFault.{TakeFault}
 use Rattle.smbd_base.specs.declared.faults.TakeFault.TheVariants as faults
 use Rattle.smbd_base.specs.Counts.{is_out_of_turn, is_silent}
-use Rattle.smbd_base.specs.History.{next_event, take_fault, fault_expecting, opening_frame, frame_due, is_cut, is_new, is_refused, is_version_refused, is_closed, is_post_due, is_opening, is_agreed, is_welcomed, is_sending, is_ready}
+use Rattle.smbd_base.specs.History.{next_event, take_fault, fault_expecting, negotiation_frame, frame_due, is_cut, is_new, is_refused, is_version_refused, is_closed, is_post_due, is_negotiating, is_agreed, is_welcomed, is_sending, is_ready}
 
 -- the past of an end that goes on: opened, neither cut nor closed
 pub record IsGoing (side : EndId) (limits : Limits) (past : List Event) : Type 0 where
@@ -71,13 +71,13 @@ post_chosen false false false false false false n m first later e = absurd cc
 pub record Emits (side : EndId) (limits : Limits) (past : List Event) (frame : List ℕ) : Type 0 where
   pub going : IsGoing side limits past
   pub post_due : is_post_due past ≡ false
-  pub chosen : Chosen (is_opening side past) (is_sending side limits past) (opening_frame side limits past) (frame_due side limits past) frame
+  pub chosen : Chosen (is_negotiating side past) (is_sending side limits past) (negotiation_frame side limits past) (frame_due side limits past) frame
 
 pub emits : (side : EndId) (limits : Limits) (past : List Event) (frame : List ℕ) → next_event side limits past ≡ due.Emit frame → Emits side limits past frame
 unfolding next_event
 emits side limits past frame e =
-    let h = emit_chosen (is_cut past) (is_new past) (is_closed side limits past) (is_post_due past) (is_opening side past) (is_sending side limits past)
-    limits.credits (opening_frame side limits past) (frame_due side limits past) frame e in
+    let h = emit_chosen (is_cut past) (is_new past) (is_closed side limits past) (is_post_due past) (is_negotiating side past) (is_sending side limits past)
+    limits.credits (negotiation_frame side limits past) (frame_due side limits past) frame e in
     record { going = record { cut = h.0.cut_is; opened = h.0.new_is; closed = h.0.closed_is }; post_due = h.1; chosen = h.2 }
 
 -- receives are posted at the opening, and one after each frame that was taken
@@ -85,8 +85,8 @@ pub posts : (side : EndId) (limits : Limits) (past : List Event) (n : ℕ) → n
     → (is_cut past ≡ false) × (((is_new past ≡ true) × (limits.credits ≡ n)) ⊎ ((is_new past ≡ false) × (is_closed side limits past ≡ false) × (is_post_due past ≡ true) × (1 ≡ n)))
 unfolding next_event
 posts side limits past n e =
-    post_chosen (is_cut past) (is_new past) (is_closed side limits past) (is_post_due past) (is_opening side past) (is_sending side limits past)
-    limits.credits n (opening_frame side limits past) (frame_due side limits past) e
+    post_chosen (is_cut past) (is_new past) (is_closed side limits past) (is_post_due past) (is_negotiating side past) (is_sending side limits past)
+    limits.credits n (negotiation_frame side limits past) (frame_due side limits past) e
 
 not_closed : (refused later : Bool) → refused ≡ false → (refused && later) ≡ false
 not_closed true later e = absurd cc

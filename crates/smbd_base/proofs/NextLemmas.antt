@@ -4,7 +4,7 @@ use Rattle.smbd_base.specs.declared.end_id.EndId.{EndId}
 use Rattle.smbd_base.specs.declared.event.Event.{Event}
 use Rattle.smbd_base.specs.declared.next.Next.TheVariants as due
 use Rattle.smbd_base.specs.Limits.{Limits}
-use Rattle.smbd_base.specs.History.{next_event, opening_frame, frame_due, is_cut, is_new, is_closed, is_post_due, is_opening, is_sending}
+use Rattle.smbd_base.specs.History.{next_event, negotiation_frame, frame_due, is_cut, is_new, is_closed, is_post_due, is_negotiating, is_sending}
 use Rattle.smbd_base.proofs.Inversion.{IsGoing}
 
 module _ (side : EndId) (limits : Limits) (past : List Event) where
@@ -20,16 +20,16 @@ module _ (side : EndId) (limits : Limits) (past : List Event) where
   unfolding next_event
   next-post g post = rw (g.cut, g.opened, g.closed, post)
 
-  pub next-opening : IsGoing side limits past → is_post_due past ≡ false → is_opening side past ≡ true → next_event side limits past ≡ due.Emit (opening_frame side limits past)
+  pub next-opening : IsGoing side limits past → is_post_due past ≡ false → is_negotiating side past ≡ true → next_event side limits past ≡ due.Emit (negotiation_frame side limits past)
   unfolding next_event
   next-opening g post opening = rw (g.cut, g.opened, g.closed, post, opening)
 
-  pub next-sending : IsGoing side limits past → is_post_due past ≡ false → is_opening side past ≡ false → is_sending side limits past ≡ true
+  pub next-sending : IsGoing side limits past → is_post_due past ≡ false → is_negotiating side past ≡ false → is_sending side limits past ≡ true
       → next_event side limits past ≡ due.Emit (frame_due side limits past)
   unfolding next_event
   next-sending g post opening sending = rw (g.cut, g.opened, g.closed, post, opening, sending)
 
-  pub next-idle : IsGoing side limits past → is_post_due past ≡ false → is_opening side past ≡ false → is_sending side limits past ≡ false
+  pub next-idle : IsGoing side limits past → is_post_due past ≡ false → is_negotiating side past ≡ false → is_sending side limits past ≡ false
       → next_event side limits past ≡ due.Idle
   unfolding next_event
   next-idle g post opening sending = rw (g.cut, g.opened, g.closed, post, opening, sending)

@@ -167,21 +167,21 @@ is_agreed side limits past = is_welcomed side limits past && not (is_silent past
 -- ---- the negotiation
 
 -- the negotiation message of the peer: the first frame that was taken, and no bytes where none was
-abbrev pub peer_opening : List Event → List ℕ
-peer_opening [] = []
-peer_opening (Post n ∷ past) = peer_opening past
-peer_opening (Submit m ∷ past) = peer_opening past
-peer_opening (Emit f ∷ past) = peer_opening past
-peer_opening (Take f ∷ past) = if is_unheard past then f else peer_opening past
-peer_opening (Cut ∷ past) = peer_opening past
+abbrev pub peer_negotiation : List Event → List ℕ
+peer_negotiation [] = []
+peer_negotiation (Post n ∷ past) = peer_negotiation past
+peer_negotiation (Submit m ∷ past) = peer_negotiation past
+peer_negotiation (Emit f ∷ past) = peer_negotiation past
+peer_negotiation (Take f ∷ past) = if is_unheard past then f else peer_negotiation past
+peer_negotiation (Cut ∷ past) = peer_negotiation past
 
 -- The negotiation message with which an end opens. A client requests. A server responds to the request that it took:
 -- one of another version it refuses, and else it grants the smaller of what was asked for and what can be granted.
-abbrev pub opening_frame : EndId → Limits → List Event → List ℕ
-opening_frame Client limits past = request_bytes (request_of_limits limits)
-opening_frame Server limits past =
+abbrev pub negotiation_frame : EndId → Limits → List Event → List ℕ
+negotiation_frame Client limits past = request_bytes (request_of_limits limits)
+negotiation_frame Server limits past =
     if is_version_refused Server limits past then response_bytes refusing_response
-    else response_bytes (answer_to (request_fields (peer_opening past)) limits (receives_grantable Server past))
+    else response_bytes (answer_to (request_fields (peer_negotiation past)) limits (receives_grantable Server past))
 
 -- what an end settles with the peer of this negotiation message
 abbrev pub settled_by : EndId → Limits → List ℕ → Agreed
@@ -190,7 +190,7 @@ settled_by Server limits frame = agreed_with_client limits (request_fields frame
 
 -- what the peer's negotiation message settles
 abbrev pub settled : EndId → Limits → List Event → Agreed
-settled side limits past = settled_by side limits (peer_opening past)
+settled side limits past = settled_by side limits (peer_negotiation past)
 
 -- what the negotiation has settled, once the end is agreed
 abbrev pub agreed_of : EndId → Limits → List Event → Option Agreed
@@ -267,9 +267,9 @@ data_frame_due limits held grantable (piece ∷ later) =
     frame_bytes limits.credits grantable (not (length later == 0) && nat_le held 2) piece.remaining piece.payload
 
 -- an end that has sent nothing opens: a client at once, and a server once it has taken the request
-abbrev pub is_opening : EndId → List Event → Bool
-is_opening Client past = is_silent past
-is_opening Server past = is_silent past && not (is_unheard past)
+abbrev pub is_negotiating : EndId → List Event → Bool
+is_negotiating Client past = is_silent past
+is_negotiating Server past = is_silent past && not (is_unheard past)
 
 -- an agreed end has a reason to send a data transfer message, and may
 abbrev pub is_sending : EndId → Limits → List Event → Bool
@@ -289,7 +289,7 @@ next_event side limits past =
     else if is_new past then due.Post limits.credits
     else if is_closed side limits past then due.Close
     else if is_post_due past then due.Post 1
-    else if is_opening side past then due.Emit (opening_frame side limits past)
+    else if is_negotiating side past then due.Emit (negotiation_frame side limits past)
     else if is_sending side limits past then due.Emit (frame_due side limits past)
     else due.Idle
 

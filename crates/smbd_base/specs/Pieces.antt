@@ -29,14 +29,14 @@ abbrev pub joined : List Piece → List ℕ
 joined run = flat_map (λ (p : Piece). p.payload) run
 
 -- after each piece of the run come the bytes of the later pieces, and these more
-abbrev pub IsRun : ℕ → List Piece → Type 0
-IsRun more [] = Unit {0}
-IsRun more (p ∷ later) = (p.remaining ≡ length (joined later) + more) × IsRun more later
+abbrev pub IsUnbroken : ℕ → List Piece → Type 0
+IsUnbroken more [] = Unit {0}
+IsUnbroken more (p ∷ later) = (p.remaining ≡ length (joined later) + more) × IsUnbroken more later
 
 -- an unbroken run of one piece or more, after which nothing is expected
 pub record IsWhole (run : List Piece) : Type 0 where
   pub some : 0 < length run
-  pub unbroken : IsRun 0 run
+  pub unbroken : IsUnbroken 0 run
 
 abbrev pub AreWhole : List (List Piece) → Type 0
 AreWhole [] = Unit {0}
@@ -45,7 +45,7 @@ AreWhole (run ∷ runs) = IsWhole run × AreWhole runs
 -- the pieces of a message that is begun expect at least one byte more; where there are none, nothing is expected
 abbrev pub IsRest : ℕ → List Piece → Type 0
 IsRest expected [] = expected ≡ 0
-IsRest expected (p ∷ later) = (0 < expected) × IsRun expected (p ∷ later)
+IsRest expected (p ∷ later) = (0 < expected) × IsUnbroken expected (p ∷ later)
 
 -- no piece is empty
 abbrev pub AreFilled : List Piece → Type 0

@@ -182,8 +182,8 @@ abbrev pub with_u32 : ℕ → ℕ → List ℕ → List ℕ
 with_u32 place n bytes = take place bytes ++ to_le_bytes w32 n ++ drop (place + 4) bytes
 
 -- the refusing response
-abbrev pub refusal : List ℕ
-refusal =
+abbrev pub refusing_frame : List ℕ
+refusing_frame =
     0 ∷ 1 ∷ 0 ∷ 1 ∷ 0 ∷ 0 ∷ 0 ∷ 0 ∷ 0 ∷ 0 ∷ 0 ∷ 0 ∷ 187 ∷ 0 ∷ 0 ∷ 192
     ∷ 0 ∷ 0 ∷ 0 ∷ 0 ∷ 0 ∷ 0 ∷ 0 ∷ 0 ∷ 0 ∷ 0 ∷ 0 ∷ 0 ∷ 0 ∷ 0 ∷ 0 ∷ 0 ∷ []
 
@@ -218,9 +218,9 @@ pub record NegotiatesSo : Type 0 where
   pub small_frames_back : response_fault usual_limits (with_u32 24 127 response) ≡ Some negotiate_faults.ReceiveSize
   pub small_messages_back : response_fault usual_limits (with_u32 28 131071 response) ≡ Some negotiate_faults.FragmentedSize
   -- the refusing response, whose Status comes before its version
-  pub refused : response_bytes refusing_response ≡ refusal
-  pub refusal_read : response_fault usual_limits refusal ≡ Some negotiate_faults.Status
-  pub short_refusal : response_fault usual_limits (take 31 refusal) ≡ Some negotiate_faults.Short
+  pub refused : response_bytes refusing_response ≡ refusing_frame
+  pub refusal_read : response_fault usual_limits refusing_frame ≡ Some negotiate_faults.Status
+  pub short_refusal : response_fault usual_limits (take 31 refusing_frame) ≡ Some negotiate_faults.Short
   -- what both have agreed
   pub server_agreed : agreed_with_client usual_limits (request_of_limits usual_limits)
       ≡ record { send_size = 1364; message_max = 1048576; read_write_max = None; credits_requested = 255 }
@@ -239,20 +239,20 @@ pub record DeclinesSo : Type 0 where
   -- a server refuses another version, posts the receive anew, sends the refusing response, and can then only be cut
   pub newer : take_fault Server usual_limits (Post 255 ∷ []) newer_request ≡ Some (faults.Negotiate negotiate_faults.Version)
   pub reposts : next_event Server usual_limits newer_taken ≡ due.Post 1
-  pub responds : next_event Server usual_limits (Post 1 ∷ newer_taken) ≡ due.Emit refusal
-  pub held : credits_held Server (Emit refusal ∷ Post 1 ∷ newer_taken) ≡ 0
-  pub closes : next_event Server usual_limits (Emit refusal ∷ Post 1 ∷ newer_taken) ≡ due.Close
-  pub unsettled : agreed_of Server usual_limits (Emit refusal ∷ Post 1 ∷ newer_taken) ≡ None
+  pub responds : next_event Server usual_limits (Post 1 ∷ newer_taken) ≡ due.Emit refusing_frame
+  pub held : credits_held Server (Emit refusing_frame ∷ Post 1 ∷ newer_taken) ≡ 0
+  pub closes : next_event Server usual_limits (Emit refusing_frame ∷ Post 1 ∷ newer_taken) ≡ due.Close
+  pub unsettled : agreed_of Server usual_limits (Emit refusing_frame ∷ Post 1 ∷ newer_taken) ≡ None
   -- meanwhile it accepts no message, and a cut ends it at once
   pub closed : submit_fault Server usual_limits newer_taken abc ≡ Some refusals.Closed
   pub cut : next_event Server usual_limits (Cut ∷ newer_taken) ≡ due.Idle
   -- a client that takes this response refuses it, and sends none
-  pub refused : take_fault Client usual_limits (Emit request ∷ Post 255 ∷ []) refusal ≡ Some (faults.Negotiate negotiate_faults.Status)
-  pub client_closes : next_event Client usual_limits (Take refusal ∷ Emit request ∷ Post 255 ∷ []) ≡ due.Close
+  pub refused : take_fault Client usual_limits (Emit request ∷ Post 255 ∷ []) refusing_frame ≡ Some (faults.Negotiate negotiate_faults.Status)
+  pub client_closes : next_event Client usual_limits (Take refusing_frame ∷ Emit request ∷ Post 255 ∷ []) ≡ due.Close
   -- a request without credits is refused, and is not responded to
   pub no_credits : take_fault Server usual_limits (Post 255 ∷ []) (with_u16 6 0 request) ≡ Some (faults.Negotiate negotiate_faults.Credits)
   pub silent : next_event Server usual_limits (Take (with_u16 6 0 request) ∷ Post 255 ∷ []) ≡ due.Close
-  -- a client refuses a response of another version, and sends no refusal
+  -- a client refuses a response of another version, and sends no refusing_frame
   pub other_version : take_fault Client usual_limits (Emit request ∷ Post 255 ∷ []) (with_u16 4 257 response) ≡ Some (faults.Negotiate negotiate_faults.Version)
   pub no_response : next_event Client usual_limits (Take (with_u16 4 257 response) ∷ Emit request ∷ Post 255 ∷ []) ≡ due.Close
 

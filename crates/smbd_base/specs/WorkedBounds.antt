@@ -13,17 +13,17 @@ use Rattle.smbd_base.specs.NegotiateMessages.{request_fault, response_fault}
 use Rattle.smbd_base.specs.Pieces.{gather_fault}
 use Rattle.smbd_base.specs.History.{next_event, take_fault, bytes_expected, is_response_owed, sends}
 use Rattle.smbd_base.specs.Delivery.{messages_delivered}
-use Rattle.smbd_base.specs.Worked.{request, response, refusal, abc, abc_frame, agreed_client, agreed_server, three, three_server, two_sent, first_frame, third_frame, empty_frame, then_taken, with_u16, with_u32}
+use Rattle.smbd_base.specs.Worked.{request, response, refusing_frame, abc, abc_frame, agreed_client, agreed_server, three, three_server, two_sent, first_frame, third_frame, empty_frame, then_taken, with_u16, with_u32}
 
 -- a data transfer message with so many bytes of payload, after 24
-abbrev pub filled : ℕ → List ℕ
-filled len = frame_bytes 255 255 false 0 (replicate len 7)
+abbrev pub filled_frame : ℕ → List ℕ
+filled_frame len = frame_bytes 255 255 false 0 (replicate len 7)
 
 -- how long a frame may be
 pub record SizeSo : Type 0 where
   -- a frame of the receive size, and of one byte more
-  pub full : take_fault Server usual_limits agreed_server (filled 8168) ≡ None
-  pub over : take_fault Server usual_limits agreed_server (filled 8169) ≡ Some (faults.Oversize 8193 8192)
+  pub full : take_fault Server usual_limits agreed_server (filled_frame 8168) ≡ None
+  pub over : take_fault Server usual_limits agreed_server (filled_frame 8169) ≡ Some (faults.Oversize 8193 8192)
   -- so it is with the negotiation message
   pub first_full : take_fault Server usual_limits (Post 255 ∷ []) (request ++ replicate 8172 0) ≡ None
   pub first_over : take_fault Server usual_limits (Post 255 ∷ []) (request ++ replicate 8173 0) ≡ Some (faults.Oversize 8193 8192)
@@ -84,7 +84,7 @@ pub record FaultOrderSo : Type 0 where
   pub credits_receive_size : request_fault (with_u16 6 0 (with_u32 12 127 request)) ≡ Some negotiation.Credits
   pub receive_fragmented_size : request_fault (with_u32 12 127 (with_u32 16 131071 request)) ≡ Some negotiation.ReceiveSize
   -- in a response
-  pub short_status : response_fault usual_limits (take 31 refusal) ≡ Some negotiation.Short
+  pub short_status : response_fault usual_limits (take 31 refusing_frame) ≡ Some negotiation.Short
   pub status_version : response_fault usual_limits (with_u32 12 1 (with_u16 4 257 response)) ≡ Some negotiation.Status
   pub version_requested : response_fault usual_limits (with_u16 4 257 (with_u16 8 0 response)) ≡ Some negotiation.Version
   pub requested_granted : response_fault usual_limits (with_u16 8 0 (with_u16 10 256 response)) ≡ Some negotiation.Credits

@@ -9,7 +9,7 @@ use Rattle.smbd_base.specs.declared.event.Event.TheVariants.{Post, Submit, Emit,
 use mathlib.Core.List.{IsPrefix}
 use Rattle.smbd_base.specs.Joint.{taken_frames}
 use Rattle.event_log.specs.Lines.{lines_text}
-use Rattle.run_log.specs.RunLines.{event_line, history_lines, next_number, number_after}
+use Rattle.run_log.specs.RunLines.{event_line, history_lines, next_frame_number, number_after}
 use Rattle.run_log.specs.NewLines.{lines_from, number_after_all, told_after, told_of}
 use Rattle.smbd_cli.specs.LogText.{Entry, entries_text, own_line, lines_at, lines_of_ends, IsLog, BeginsLog}
 use Rattle.run_log.specs.declared.telling.Told.{Told}
@@ -19,7 +19,7 @@ use Rattle.smbd_cli.specs.Telling.{new_text}
 -- ---- lines in both orders
 
 -- the number of the next frame, after these events in the order of time
-lines_more : (side : EndId) (number : ℕ) (lines : List (List ℕ)) (past : List Event) → number ≡ next_number past → lines ≡ history_lines side past
+lines_more : (side : EndId) (number : ℕ) (lines : List (List ℕ)) (past : List Event) → number ≡ next_frame_number past → lines ≡ history_lines side past
     → (events : List Event) → history_lines side (reverse events ++ past) ≡ lines ++ lines_from side number events
 lines_more side number lines past n l [] = sym l ∙ sym (append-nil lines)
 lines_more side number lines past n l (e ∷ events) =
@@ -29,7 +29,7 @@ lines_more side number lines past n l (e ∷ events) =
     ap (history_lines side) split
     ∙ lines_more side (number_after number e) (lines ++ event_line side number e ∷ []) (e ∷ past) (next_is number past e n) line_is events
     ∙ append_assoc lines (event_line side number e ∷ []) (lines_from side (number_after number e) events) where
-      next_is : (number : ℕ) (past : List Event) (e : Event) → number ≡ next_number past → number_after number e ≡ next_number (e ∷ past)
+      next_is : (number : ℕ) (past : List Event) (e : Event) → number ≡ next_frame_number past → number_after number e ≡ next_frame_number (e ∷ past)
       next_is number past (Post n) h = h
       next_is number past (Submit m) h = h
       next_is number past (Emit f) h = h
@@ -104,15 +104,15 @@ lines_gained : (side : EndId) (past now history : List Event) → GoesOn past no
     → history_lines side now ≡ history_lines side past ++ lines_from side (told_of past).next (drop (told_of past).events history)
 lines_gained side past now history more is =
     let g = gained past now history more is in
-    ap (history_lines side) g.is ∙ lines_more side (next_number past) (history_lines side past) past refl refl g.events
-    ∙ ap (λ (es : List Event). history_lines side past ++ lines_from side (next_number past) es) (sym g.dropped)
+    ap (history_lines side) g.is ∙ lines_more side (next_frame_number past) (history_lines side past) past refl refl g.events
+    ∙ ap (λ (es : List Event). history_lines side past ++ lines_from side (next_frame_number past) es) (sym g.dropped)
 
-number_is : (past events : List Event) → number_after_all (next_number past) events ≡ next_number (reverse events ++ past)
+number_is : (past events : List Event) → number_after_all (next_frame_number past) events ≡ next_frame_number (reverse events ++ past)
 number_is past [] = refl
 number_is past (e ∷ events) =
     ap (λ (n : ℕ). number_after_all n events) (next_is past e) ∙ number_is (e ∷ past) events
-    ∙ ap (λ (p : List Event). next_number p) (sym (ap (λ (p : List Event). p ++ past) (reverse_onto events e []) ∙ append_assoc (reverse events) (e ∷ []) past)) where
-      next_is : (past : List Event) (e : Event) → number_after (next_number past) e ≡ next_number (e ∷ past)
+    ∙ ap (λ (p : List Event). next_frame_number p) (sym (ap (λ (p : List Event). p ++ past) (reverse_onto events e []) ∙ append_assoc (reverse events) (e ∷ []) past)) where
+      next_is : (past : List Event) (e : Event) → number_after (next_frame_number past) e ≡ next_frame_number (e ∷ past)
       next_is past (Post n) = refl
       next_is past (Submit m) = refl
       next_is past (Emit f) = refl
@@ -124,8 +124,8 @@ pub told_all : (past now history : List Event) (told : Told) → told ≡ told_o
 told_all past now history told is more h =
     let g = gained past now history more h in
     let long : length history ≡ length now = sym (length-reverse history) ∙ ap length h in
-    let next : number_after_all (next_number past) (drop (length past) history) ≡ next_number now =
-    ap (λ (es : List Event). number_after_all (next_number past) es) g.dropped ∙ number_is past g.events ∙ ap (λ (p : List Event). next_number p) (sym g.is) in
+    let next : number_after_all (next_frame_number past) (drop (length past) history) ≡ next_frame_number now =
+    ap (λ (es : List Event). number_after_all (next_frame_number past) es) g.dropped ∙ number_is past g.events ∙ ap (λ (p : List Event). next_frame_number p) (sym g.is) in
     rw is (rw (long, next) refl)
 
 entries_text-append : (xs ys : List Entry) → entries_text (xs ++ ys) ≡ entries_text xs ++ entries_text ys

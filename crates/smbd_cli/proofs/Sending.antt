@@ -13,7 +13,7 @@ use Rattle.smbd_base.specs.DataFrame.{data_frame_of}
 use Rattle.smbd_base.specs.Grant.{credits_in}
 use Rattle.smbd_base.specs.Pieces.{Piece, pieces_of}
 use Rattle.smbd_base.specs.Counts.{receives_posted, frames_taken, credits_granted, credits_held, receives_outstanding, receives_grantable, is_silent, is_unheard, is_out_of_turn, peer_of}
-use Rattle.smbd_base.specs.History.{settled, next_event, take_fault, is_ready, is_opening, is_sending, is_agreed, is_response_owed, sends, carries, messages_submitted, pieces_sent, pieces_waiting, frame_due, data_frame_due, IsLegal}
+use Rattle.smbd_base.specs.History.{settled, next_event, take_fault, is_ready, is_negotiating, is_sending, is_agreed, is_response_owed, sends, carries, messages_submitted, pieces_sent, pieces_waiting, frame_due, data_frame_due, IsLegal}
 use Rattle.smbd_base.specs.Joint.{taken_frames}
 use Rattle.smbd_base.proofs.BalanceLemmas.{balanced, granted-data_frame_due}
 use Rattle.smbd_base.proofs.FrameLaws.{data_frame_of-filled}
@@ -35,7 +35,7 @@ going side past s = record { cut = s.cut; opened = s.opened; closed = rw s.refus
 pub agreed : (side : EndId) (past : List Event) → IsSettled side past → is_agreed side usual_limits past ≡ true
 agreed side past s = rw (s.welcomed, s.silent) refl
 
-not_opening : (side : EndId) (past : List Event) → is_silent past ≡ false → is_opening side past ≡ false
+not_opening : (side : EndId) (past : List Event) → is_silent past ≡ false → is_negotiating side past ≡ false
 not_opening Client past spoken = spoken
 not_opening Server past spoken = rw spoken refl
 

@@ -17,7 +17,7 @@ use Rattle.smbd_base.specs.DataFrame.{data_frame_of}
 use Rattle.smbd_base.specs.Delivery.{messages_delivered, pieces_taken, piece_in}
 use Rattle.smbd_base.specs.Joint.{AreAccepted, emitted_frames, taken_frames}
 use Rattle.smbd_base.specs.Pieces.{Piece, AreFilled, SplitsInto}
-use Rattle.smbd_base.specs.History.{take_fault, bytes_expected, peer_opening, is_new, is_refused, is_version_refused, is_closed, messages_submitted, pieces_sent, IsLegal}
+use Rattle.smbd_base.specs.History.{take_fault, bytes_expected, peer_negotiation, is_new, is_refused, is_version_refused, is_closed, messages_submitted, pieces_sent, IsLegal}
 use Rattle.smbd_base.proofs.BalanceLemmas.{balanced}
 use Rattle.smbd_base.proofs.Hearing.{spoken_heard}
 use Rattle.smbd_base.proofs.Inversion.{emits, both, from_not, ready_parts, sending_parts}
@@ -119,11 +119,11 @@ later_fits x own other taker sender agreed frame front rest legal s within taken
 
 -- the request was the first frame that the sender took, where it is a server
 request_heard : (x : EndId) (own other : Limits) (taker sender : List Event) (frame : List ℕ) → IsLegal x own taker → IsPrefix (taken_frames sender) (emitted_frames taker)
-    → (w : IsFirst (peer_of x) other (taken_frames sender) frame) → x ≡ Client → is_unheard w.before ≡ false → peer_opening w.before ≡ request_bytes (request_of_limits own)
+    → (w : IsFirst (peer_of x) other (taken_frames sender) frame) → x ≡ Client → is_unheard w.before ≡ false → peer_negotiation w.before ≡ request_bytes (request_of_limits own)
 request_heard Client own other taker sender frame legal back w is heard =
     let h = heard_first w.before heard in
-    let then = front_first (taken_frames w.before) (taken_frames sender) h.0 (peer_opening w.before) w.front h.1 in
-    let first = first_sent Client own taker (peer_opening w.before) _ legal (front_first (taken_frames sender) (emitted_frames taker) _ (peer_opening w.before) back then) in
+    let then = front_first (taken_frames w.before) (taken_frames sender) h.0 (peer_negotiation w.before) w.front h.1 in
+    let first = first_sent Client own taker (peer_negotiation w.before) _ legal (front_first (taken_frames sender) (emitted_frames taker) _ (peer_negotiation w.before) back then) in
     sym first.is
 request_heard Server own other taker sender frame legal back w is heard = absurd cc
 
@@ -178,11 +178,11 @@ open_accepted x limits (Cut ∷ past) legal going = open_accepted x limits past 
 
 -- a server took a request without a fault first
 request_taken : (x : EndId) (other : Limits) (taker sender : List Event) (rest : List (List ℕ)) → IsLawful other → IsLegal (peer_of x) other sender
-    → emitted_frames sender ≡ taken_frames taker ++ rest → x ≡ Server → is_unheard taker ≡ false → request_fault (peer_opening taker) ≡ None
+    → emitted_frames sender ≡ taken_frames taker ++ rest → x ≡ Server → is_unheard taker ≡ false → request_fault (peer_negotiation taker) ≡ None
 request_taken Client other taker sender rest peer legal e is heard = absurd cc
 request_taken Server other taker sender rest peer legal e is heard =
     let h = heard_first taker heard in
-    let w = first_sent Client other sender (peer_opening taker) (h.0 ++ rest) legal (front_first (taken_frames taker) (emitted_frames sender) h.0 (peer_opening taker) (rest, sym e) h.1) in
+    let w = first_sent Client other sender (peer_negotiation taker) (h.0 ++ rest) legal (front_first (taken_frames taker) (emitted_frames sender) h.0 (peer_negotiation taker) (rest, sym e) h.1) in
     subst (λ (f : List ℕ). request_fault f ≡ None) w.is (request_sound other peer)
 
 open_by : (refused version silent : Bool) → (refused && not (version && silent)) ≡ false → version ≡ false → refused ≡ false

@@ -4,7 +4,7 @@ use Rattle.std.proofs.lemmas.Bool.Decides.{nat_tests}
 use Rattle.std.proofs.lemmas.List.{length-append, append_cancel_left}
 use Rattle.std.proofs.lemmas.List.Concat.{flat_map-append}
 use Rattle.smbd_base.specs.declared.faults.Broken.{Broken}
-use Rattle.smbd_base.specs.Pieces.{Piece, gather_fault, joined, IsRun, AreWhole, IsRest, AreFilled, SplitsInto}
+use Rattle.smbd_base.specs.Pieces.{Piece, gather_fault, joined, IsUnbroken, AreWhole, IsRest, AreFilled, SplitsInto}
 use Rattle.smbd_laws.proofs.Splitting.{front_runs}
 use Rattle.smbd_base.proofs.RunLemmas.{pieces_in}
 
@@ -46,7 +46,7 @@ AreShort max [] = Unit {0}
 AreShort max (m ∷ messages) = (length m ≤ max) × AreShort max messages
 
 -- where a run is begun, its next piece and the bytes after it are what the begun one expects
-next_in : (expected : ℕ) (q : Piece) (later run after more : List Piece) (p : Piece) → 0 < expected → IsRun expected (q ∷ later) → IsRun 0 run → 0 < length run
+next_in : (expected : ℕ) (q : Piece) (later run after more : List Piece) (p : Piece) → 0 < expected → IsUnbroken expected (q ∷ later) → IsUnbroken 0 run → 0 < length run
     → (q ∷ later) ++ p ∷ more ≡ run ++ after → expected ≡ length p.payload + p.remaining
 next_in expected q later [] after more p some r w long e = absurd (omega arith)
 next_in expected q [] (q' ∷ []) after more p some r w long e =

@@ -7,7 +7,7 @@ use Rattle.smbd_base.specs.declared.end_id.EndId.{EndId}
 use Rattle.smbd_base.specs.declared.event.Event.{Event}
 use Rattle.smbd_base.specs.declared.event.Event.TheVariants.{Post, Submit, Emit, Take, Cut}
 use Rattle.smbd_base.specs.Limits.{Limits}
-use Rattle.smbd_base.specs.Pieces.{Piece, Gathered, with_piece, gather_fault, joined, IsRun, IsWhole, AreWhole, IsRest, AreFilled, SplitsInto}
+use Rattle.smbd_base.specs.Pieces.{Piece, Gathered, with_piece, gather_fault, joined, IsUnbroken, IsWhole, AreWhole, IsRest, AreFilled, SplitsInto}
 use Rattle.smbd_base.specs.Delivery.{Delivers, and_piece, gather, gathered, messages_delivered, pieces_taken, piece_brought}
 use Rattle.smbd_base.proofs.RunLemmas.{pieces_in, joined-more, run_more, rest_more, whole_more}
 use Rattle.smbd_base.specs.History.{bytes_expected}
@@ -21,7 +21,7 @@ abbrev pub Continues : List Piece → ℕ → Piece → Type 0
 Continues [] expected p = Unit {0}
 Continues (q ∷ later) expected p = expected ≡ length p.payload + p.remaining
 
-begun_more : (expected : ℕ) (rest : List Piece) (p : Piece) → IsRest expected rest → Continues rest expected p → IsRun p.remaining (rest ++ p ∷ [])
+begun_more : (expected : ℕ) (rest : List Piece) (p : Piece) → IsRest expected rest → Continues rest expected p → IsUnbroken p.remaining (rest ++ p ∷ [])
 begun_more expected [] p r next = (omega arith, tt)
 begun_more expected (q ∷ later) p r next = run_more expected (q ∷ later) p r.1 next
 
@@ -43,7 +43,7 @@ rest_after rest p = cond (p.remaining == 0) [] (rest ++ p ∷ [])
 pub gathered_more : (pieces : List Piece) (g : Gathered) (rest : List Piece) (expected : ℕ) (p : Piece) → IsGathered pieces g rest expected → Continues rest expected p
     → IsGathered (pieces ++ p ∷ []) (with_piece g p) (rest_after rest p) p.remaining
 gathered_more pieces g rest expected p h next = by_end (p.remaining == 0) refl where
-  run : IsRun p.remaining (rest ++ p ∷ [])
+  run : IsUnbroken p.remaining (rest ++ p ∷ [])
   run = begun_more expected rest p h.splits.last next
 
   bytes : joined (rest ++ p ∷ []) ≡ g.begun ++ p.payload
@@ -65,7 +65,7 @@ gathered_more pieces g rest expected p h next = by_end (p.remaining == 0) refl w
       record {
         splits = record {
           runs = h.splits.runs ++ (rest ++ p ∷ []) ∷ [];
-          whole = whole_more h.splits.runs (rest ++ p ∷ []) h.splits.whole (record { some = omega (arith, length-append rest (p ∷ [])); unbroken = subst (λ (n : ℕ). IsRun n (rest ++ p ∷ [])) none run });
+          whole = whole_more h.splits.runs (rest ++ p ∷ []) h.splits.whole (record { some = omega (arith, length-append rest (p ∷ [])); unbroken = subst (λ (n : ℕ). IsUnbroken n (rest ++ p ∷ [])) none run });
           all = all ∙ sym one_run_more;
           each = ap (λ (m : List ℕ). g.messages ++ m ∷ []) (sym bytes) ∙ ap (λ (ms : List (List ℕ)). ms ++ joined (rest ++ p ∷ []) ∷ []) h.splits.each
               ∙ sym (map-append joined h.splits.runs ((rest ++ p ∷ []) ∷ []));

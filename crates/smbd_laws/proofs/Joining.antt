@@ -3,7 +3,7 @@ use Rattle.std.proofs.Common.{◌≡◌, ℕ, zero, suc, ◌+◌, ◌*◌, ◌-�
 use Rattle.std.specs.List.{All, flat_map}
 use Rattle.std.proofs.lemmas.List.{length-take, length-drop, take-append-drop}
 use Rattle.std.proofs.lemmas.List.Elements.{All-nil, All-cons}
-use Rattle.smbd_base.specs.Pieces.{Piece, front_pieces, pieces_count, pieces_of, joined, IsRun, IsWhole, AreWhole, AreFilled, SplitsInto}
+use Rattle.smbd_base.specs.Pieces.{Piece, front_pieces, pieces_count, pieces_of, joined, IsUnbroken, IsWhole, AreWhole, AreFilled, SplitsInto}
 
 -- ---- so many pieces that the message has no more bytes
 
@@ -14,7 +14,7 @@ joined-front_pieces (suc count) size message fits =
     ap (λ (bytes : List ℕ). take size message ++ bytes) (joined-front_pieces count size (drop size message) (omega (arith, length-drop size message)))
     ∙ take-append-drop size message
 
-front_pieces-run : (count size : ℕ) (message : List ℕ) → length message ≤ count * size → IsRun 0 (front_pieces count size message)
+front_pieces-run : (count size : ℕ) (message : List ℕ) → length message ≤ count * size → IsUnbroken 0 (front_pieces count size message)
 front_pieces-run zero size message fits = tt
 front_pieces-run (suc count) size message fits =
     let fewer : length (drop size message) ≤ count * size = omega (arith, length-drop size message) in

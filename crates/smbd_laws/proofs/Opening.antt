@@ -11,7 +11,7 @@ use Rattle.smbd_base.specs.Limits.{Limits, IsLawful}
 use Rattle.smbd_base.specs.Counts.{receives_grantable, is_silent, is_unheard, peer_of}
 use Rattle.smbd_base.specs.Joint.{emitted_frames, taken_frames}
 use Rattle.smbd_base.specs.NegotiateMessages.{Request, Response, request_bytes, request_fields, request_fault, request_of_limits, response_bytes, response_fields, response_fault, answer_to, refusing_response, agreed_with_client, agreed_with_server, fields_or_fault}
-use Rattle.smbd_base.specs.History.{negotiation_fault, opening_frame, peer_opening, settled_by, is_opening, is_version_refused, IsLegal}
+use Rattle.smbd_base.specs.History.{negotiation_fault, negotiation_frame, peer_negotiation, settled_by, is_negotiating, is_version_refused, IsLegal}
 use Rattle.smbd_base.proofs.BalanceLemmas.{balanced}
 use Rattle.smbd_base.proofs.Inversion.{Emits, emits, both, from_not, sending_parts}
 use Rattle.smbd_base.proofs.NegotiationLaws.{request_fields-request_bytes, response_fields-response_bytes, read_request_of-request_bytes, read_response_of-response_bytes, request_of_limits-fits, lawful_request_of_limits, lawful_answer, fits-answer}
@@ -29,15 +29,15 @@ pub front_first : {A : Type 0} (xs ys rest : List A) (x : A) (k : IsPrefix xs ys
 front_first xs ys rest x k e = sym k.1 ∙ ap (λ (zs : List _). zs ++ k.0) e
 
 opening_by : (past : List Event) (f : List ℕ) (unheard : Bool) → is_unheard past ≡ unheard
-    → (is_unheard past ≡ false → (rest : List (List ℕ)) × (taken_frames past ≡ peer_opening past ∷ rest))
-    → (rest : List (List ℕ)) × (taken_frames past ++ f ∷ [] ≡ cond unheard f (peer_opening past) ∷ rest)
+    → (is_unheard past ≡ false → (rest : List (List ℕ)) × (taken_frames past ≡ peer_negotiation past ∷ rest))
+    → (rest : List (List ℕ)) × (taken_frames past ++ f ∷ [] ≡ cond unheard f (peer_negotiation past) ∷ rest)
 opening_by past f true is was =
     let none : taken_frames past ≡ [] = empty_is (taken_frames past) (sym (unheard_is past) ∙ is) in
     ([], ap (λ (fs : List (List ℕ)). fs ++ f ∷ []) none)
 opening_by past f false is was = let h = was is in (h.0 ++ f ∷ [], ap (λ (fs : List (List ℕ)). fs ++ f ∷ []) h.1)
 
 -- an end that has heard took its peer's opening frame first
-pub heard_first : (past : List Event) → is_unheard past ≡ false → (rest : List (List ℕ)) × (taken_frames past ≡ peer_opening past ∷ rest)
+pub heard_first : (past : List Event) → is_unheard past ≡ false → (rest : List (List ℕ)) × (taken_frames past ≡ peer_negotiation past ∷ rest)
 heard_first [] heard = absurd cc
 heard_first (Post n ∷ past) heard = heard_first past heard
 heard_first (Submit m ∷ past) heard = heard_first past heard
@@ -52,9 +52,9 @@ pub record IsFirst (side : EndId) (limits : Limits) (taken : List (List ℕ)) (f
   pub before : List Event
   pub legal : IsLegal side limits before
   pub emits : Emits side limits before frame
-  pub opening : is_opening side before ≡ true
+  pub opening : is_negotiating side before ≡ true
   pub silent : is_silent before ≡ true
-  pub is : opening_frame side limits before ≡ frame
+  pub is : negotiation_frame side limits before ≡ frame
   pub front : IsPrefix (taken_frames before) taken
 
 first_now : (side : EndId) (limits : Limits) (past : List Event) (f : List ℕ) → IsLegal side limits past → Emits side limits past f → is_silent past ≡ true
@@ -128,9 +128,9 @@ told_refusal : (own other : Limits) → IsWithinPeer own (agreed_with_server oth
 told_refusal own other = record { frames = omega arith; messages = omega arith }
 
 told_server : (own other : Limits) (past : List Event) (version : Bool) → IsLawful own → receives_grantable Server past < 65536
-    → IsWithinPeer own (agreed_with_server other (response_fields (cond version (response_bytes refusing_response) (response_bytes (answer_to (request_fields (peer_opening past)) own (receives_grantable Server past))))))
+    → IsWithinPeer own (agreed_with_server other (response_fields (cond version (response_bytes refusing_response) (response_bytes (answer_to (request_fields (peer_negotiation past)) own (receives_grantable Server past))))))
 told_server own other past true lawful small = told_refusal own other
-told_server own other past false lawful small = told_answer own other (request_fields (peer_opening past)) (receives_grantable Server past) lawful small
+told_server own other past false lawful small = told_answer own other (request_fields (peer_negotiation past)) (receives_grantable Server past) lawful small
 
 -- what the peer settles from an end's first frame is within the end's limits
 pub told : (side : EndId) (own other : Limits) (taken : List (List ℕ)) (f : List ℕ) → IsLawful own → IsFirst side own taken f
@@ -168,24 +168,24 @@ response_sound own other grantable lawful peer some small =
     (read_response_of-response_bytes own answer (fits-answer other (request_of_limits own) grantable peer small) (lawful_answer own other grantable lawful peer some))
 
 welcome_response : (own other : Limits) (past : List Event) (version : Bool) → IsLawful own → IsLawful other → version ≡ false
-    → peer_opening past ≡ request_bytes (request_of_limits own) → 1 ≤ receives_grantable Server past → receives_grantable Server past < 65536
-    → IsWelcome Client own (cond version (response_bytes refusing_response) (response_bytes (answer_to (request_fields (peer_opening past)) other (receives_grantable Server past))))
+    → peer_negotiation past ≡ request_bytes (request_of_limits own) → 1 ≤ receives_grantable Server past → receives_grantable Server past < 65536
+    → IsWelcome Client own (cond version (response_bytes refusing_response) (response_bytes (answer_to (request_fields (peer_negotiation past)) other (receives_grantable Server past))))
 welcome_response own other past true lawful peer none heard some small = absurd cc
 welcome_response own other past false lawful peer none heard some small =
-    let asked : request_fields (peer_opening past) ≡ request_of_limits own =
+    let asked : request_fields (peer_negotiation past) ≡ request_of_limits own =
     ap (λ (g : List ℕ). request_fields g) heard ∙ request_fields-request_bytes (request_of_limits own) (request_of_limits-fits own lawful) in
     subst (λ (r : Request). IsWelcome Client own (response_bytes (answer_to r other (receives_grantable Server past)))) (sym asked)
     (record { short = lit≤ tt; sound = response_sound own other (receives_grantable Server past) lawful peer some small })
 
 -- a server that took a client's request answers so that the client takes it
 welcome_server : (own other : Limits) (taken : List (List ℕ)) (f : List ℕ) → IsLawful own → IsLawful other → (w : IsFirst Server other taken f)
-    → peer_opening w.before ≡ request_bytes (request_of_limits own) → IsWelcome Client own f
+    → peer_negotiation w.before ≡ request_bytes (request_of_limits own) → IsWelcome Client own f
 welcome_server own other taken f lawful peer w heard =
     let b = balanced Server other w.before peer w.legal w.emits.going.opened in
     let all = b.reposted w.emits.going.cut w.emits.going.closed in
     let one = b.silent_granted w.silent in
     let full = rw w.emits.post_due at all in
-    let sound : request_fault (peer_opening w.before) ≡ None = rw heard (request_sound own lawful) in
+    let sound : request_fault (peer_negotiation w.before) ≡ None = rw heard (request_sound own lawful) in
     subst (λ (g : List ℕ). IsWelcome Client own g) w.is
     (welcome_response own other w.before (is_version_refused Server other w.before) lawful peer
     (no_version_refused Server other w.before (λ _ _. sound)) heard (omega (arith, full, one, peer.credits.0)) (grantable_small Server other w.before f peer w.legal w.emits))
@@ -195,7 +195,7 @@ welcome_client own other peer = record { short = lit≤ tt; sound = request_soun
 
 -- an end takes the first frame of a peer that took what it asked first
 pub welcome : (side : EndId) (own other : Limits) (taken : List (List ℕ)) (f : List ℕ) → IsLawful own → IsLawful other → (w : IsFirst (peer_of side) other taken f)
-    → (side ≡ Client → is_unheard w.before ≡ false → peer_opening w.before ≡ request_bytes (request_of_limits own)) → IsWelcome side own f
+    → (side ≡ Client → is_unheard w.before ≡ false → peer_negotiation w.before ≡ request_bytes (request_of_limits own)) → IsWelcome side own f
 welcome Client own other taken f lawful peer w heard =
     welcome_server own other taken f lawful peer w (heard refl (from_not (is_unheard w.before) (both (is_silent w.before) _ w.opening).1))
 welcome Server own other taken f lawful peer w heard = subst (λ (g : List ℕ). IsWelcome Server own g) w.is (welcome_client own other peer)

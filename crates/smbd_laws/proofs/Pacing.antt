@@ -13,7 +13,7 @@ use Rattle.smbd_base.specs.Limits.{Limits, IsLawful}
 use Rattle.smbd_base.specs.Counts.{peer_of}
 use Rattle.smbd_base.specs.Delivery.{messages_delivered, pieces_taken}
 use Rattle.smbd_base.specs.Joint.{AreAccepted, emitted_frames, taken_frames}
-use Rattle.smbd_base.specs.Pieces.{Piece, pieces_of, joined, IsRun, IsRest, AreFilled, SplitsInto}
+use Rattle.smbd_base.specs.Pieces.{Piece, pieces_of, joined, IsUnbroken, IsRest, AreFilled, SplitsInto}
 use Rattle.smbd_base.specs.History.{bytes_expected, messages_submitted, payload_size, pieces_sent, settled, is_agreed, IsLegal}
 use Rattle.smbd_base.proofs.BalanceLemmas.{silent_opening}
 use Rattle.smbd_base.proofs.Inversion.{Emits, emits, sending_parts}
@@ -29,7 +29,7 @@ use Rattle.smbd_laws.proofs.Submitting.{pieces_submitted, submitted_some, size_o
 -- ---- a run that is cut through
 
 -- its first pieces expect what the later ones carry
-run_front : (more : ℕ) (front back : List Piece) → IsRun more (front ++ back) → IsRun (length (joined back) + more) front
+run_front : (more : ℕ) (front back : List Piece) → IsUnbroken more (front ++ back) → IsUnbroken (length (joined back) + more) front
 run_front more [] back r = tt
 run_front more (p ∷ front) back r =
     let bytes : joined (front ++ back) ≡ joined front ++ joined back = flat_map-append (λ (q : Piece). q.payload) front back in
@@ -40,7 +40,7 @@ joined_some : (pieces : List Piece) → AreFilled pieces → 0 < length pieces �
 joined_some [] f some = absurd (omega arith)
 joined_some (p ∷ later) f some = omega (arith, f.0, length-append p.payload (joined later))
 
-front_rest : (front back : List Piece) → IsRun 0 (front ++ back) → AreFilled (front ++ back) → 0 < length back → (expected : ℕ) × IsRest expected front
+front_rest : (front back : List Piece) → IsUnbroken 0 (front ++ back) → AreFilled (front ++ back) → 0 < length back → (expected : ℕ) × IsRest expected front
 front_rest [] back r f some = (0, refl)
 front_rest (p ∷ front) back r f some =
     (length (joined back) + 0, (omega (arith, joined_some back (filled_after (p ∷ front) back f) some), run_front 0 (p ∷ front) back r))

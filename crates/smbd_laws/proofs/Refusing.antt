@@ -15,7 +15,7 @@ use Rattle.smbd_base.specs.Counts.{is_unheard, is_out_of_turn}
 use Rattle.smbd_base.specs.DataFrame.{DataFrame, data_frame_of}
 use Rattle.smbd_base.specs.Pieces.{Piece, gather_fault}
 use Rattle.smbd_base.specs.NegotiateMessages.{request_fault}
-use Rattle.smbd_base.specs.History.{take_fault, fault_expecting, negotiation_fault, negotiate_fault, data_fault, broken_fault, bytes_expected, expected_after, peer_opening, is_version_fault, is_server, is_version_refused}
+use Rattle.smbd_base.specs.History.{take_fault, fault_expecting, negotiation_fault, negotiate_fault, data_fault, broken_fault, bytes_expected, expected_after, peer_negotiation, is_version_fault, is_server, is_version_refused}
 use Rattle.smbd_base.specs.Delivery.{piece_in, piece_brought}
 
 -- ---- the last test of a frame
@@ -74,7 +74,7 @@ both_not : (a : Bool) → (a && false) ≡ false
 both_not true = refl
 both_not false = refl
 
-take_version : (limits : Limits) (past : List Event) (f : List ℕ) (unheard : Bool) → is_unheard past ≡ unheard → request_fault (cond unheard f (peer_opening past)) ≡ None
+take_version : (limits : Limits) (past : List Event) (f : List ℕ) (unheard : Bool) → is_unheard past ≡ unheard → request_fault (cond unheard f (peer_negotiation past)) ≡ None
     → is_version_fault (take_fault Server limits past f) ≡ false
 unfolding take_fault fault_expecting
 take_version limits past f unheard is sound =
@@ -84,7 +84,7 @@ take_version limits past f unheard is sound =
     (data_version limits.fragmented_size (bytes_expected Server limits past) (data_frame_of f))
 
 -- a server whose client sent a request without a fault refuses no version
-server_accepts : (limits : Limits) (past : List Event) → (is_unheard past ≡ false → request_fault (peer_opening past) ≡ None) → is_version_refused Server limits past ≡ false
+server_accepts : (limits : Limits) (past : List Event) → (is_unheard past ≡ false → request_fault (peer_negotiation past) ≡ None) → is_version_refused Server limits past ≡ false
 server_accepts limits [] sound = refl
 server_accepts limits (Post n ∷ past) sound = server_accepts limits past sound
 server_accepts limits (Submit m ∷ past) sound = server_accepts limits past sound
@@ -103,7 +103,7 @@ client_accepts limits (Take f ∷ past) = both_not (is_version_fault (take_fault
 client_accepts limits (Cut ∷ past) = client_accepts limits past
 
 -- no version was refused where the first frame that was taken has no fault
-pub no_version_refused : (side : EndId) (limits : Limits) (past : List Event) → (side ≡ Server → is_unheard past ≡ false → request_fault (peer_opening past) ≡ None)
+pub no_version_refused : (side : EndId) (limits : Limits) (past : List Event) → (side ≡ Server → is_unheard past ≡ false → request_fault (peer_negotiation past) ≡ None)
     → is_version_refused side limits past ≡ false
 no_version_refused Client limits past sound = client_accepts limits past
 no_version_refused Server limits past sound = server_accepts limits past (sound refl)

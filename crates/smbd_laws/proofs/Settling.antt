@@ -12,7 +12,7 @@ use Rattle.smbd_base.specs.Limits.{Limits, IsLawful}
 use Rattle.smbd_base.specs.Counts.{is_silent, is_unheard, peer_of}
 use Rattle.smbd_base.specs.Joint.{emitted_frames, taken_frames}
 use Rattle.smbd_base.specs.NegotiateMessages.{request_fields, request_fault, response_fields, response_fault, fault_in_request, fault_in_response, IsLawfulAgreement}
-use Rattle.smbd_base.specs.History.{negotiation_fault, take_fault, peer_opening, settled, settled_by, is_agreed, is_welcomed, IsLegal}
+use Rattle.smbd_base.specs.History.{negotiation_fault, take_fault, peer_negotiation, settled, settled_by, is_agreed, is_welcomed, IsLegal}
 use Rattle.smbd_base.proofs.Hearing.{welcomed_heard}
 use Rattle.smbd_base.proofs.Inversion.{both}
 use Rattle.smbd_base.proofs.NegotiationLaws.{lawful_request, lawful_response, lawful_agreement_with_client, lawful_agreement_with_server}
@@ -21,12 +21,12 @@ use Rattle.smbd_laws.proofs.Refusing.{accepted_first}
 
 sound_by : (side : EndId) (limits : Limits) (past : List Event) (f : List ℕ) (unheard : Bool) → is_unheard past ≡ unheard
     → cond unheard (is_none (take_fault side limits past f)) (is_welcomed side limits past) ≡ true
-    → (is_welcomed side limits past ≡ true → negotiation_fault side limits (peer_opening past) ≡ None) → negotiation_fault side limits (cond unheard f (peer_opening past)) ≡ None
+    → (is_welcomed side limits past ≡ true → negotiation_fault side limits (peer_negotiation past) ≡ None) → negotiation_fault side limits (cond unheard f (peer_negotiation past)) ≡ None
 sound_by side limits past f true is w was = accepted_first side limits past f w is
 sound_by side limits past f false is w was = was w
 
 -- its peer's opening frame has no fault
-pub welcomed_sound : (side : EndId) (limits : Limits) (past : List Event) → is_welcomed side limits past ≡ true → negotiation_fault side limits (peer_opening past) ≡ None
+pub welcomed_sound : (side : EndId) (limits : Limits) (past : List Event) → is_welcomed side limits past ≡ true → negotiation_fault side limits (peer_negotiation past) ≡ None
 welcomed_sound side limits [] w = absurd cc
 welcomed_sound side limits (Post n ∷ past) w = welcomed_sound side limits past w
 welcomed_sound side limits (Submit m ∷ past) w = welcomed_sound side limits past w
@@ -61,7 +61,7 @@ agreed_parts side limits past agreed = both (is_welcomed side limits past) (not 
 -- what an agreed end has settled is lawful
 pub agreed_lawful : (side : EndId) (limits : Limits) (past : List Event) → IsLawful limits → is_agreed side limits past ≡ true → IsLawfulAgreement (settled side limits past)
 agreed_lawful side limits past lawful agreed =
-    lawful_settled side limits (peer_opening past) lawful (welcomed_sound side limits past (agreed_parts side limits past agreed).0)
+    lawful_settled side limits (peer_negotiation past) lawful (welcomed_sound side limits past (agreed_parts side limits past agreed).0)
 
 -- ---- from one past to the next
 
@@ -134,9 +134,9 @@ pub settled_within : (x : EndId) (own other : Limits) (taker sender : List Event
     → is_agreed (peer_of x) other sender ≡ true → IsWithinPeer own (settled (peer_of x) other sender)
 settled_within x own other taker sender lawful legal back agreed =
     let heard = heard_first sender (welcomed_heard (peer_of x) other sender (agreed_parts (peer_of x) other sender agreed).0) in
-    let first = first_sent x own taker (peer_opening sender) (heard.0 ++ back.0) legal
-    (front_first (taken_frames sender) (emitted_frames taker) heard.0 (peer_opening sender) back heard.1) in
-    told x own other (taken_frames taker) (peer_opening sender) lawful first
+    let first = first_sent x own taker (peer_negotiation sender) (heard.0 ++ back.0) legal
+    (front_first (taken_frames sender) (emitted_frames taker) heard.0 (peer_negotiation sender) back heard.1) in
+    told x own other (taken_frames taker) (peer_negotiation sender) lawful first
 
 -- so does any end that took only what that peer sent
 pub settles_within : (x : EndId) (own other : Limits) (taker sender : List Event) → IsLawful own → IsLawful other → IsLegal x own taker

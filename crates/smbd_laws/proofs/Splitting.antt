@@ -3,7 +3,7 @@ use Rattle.std.proofs.Common.{◌≡◌, ℕ, ◌+◌, ◌<◌, List, [], ◌∷
 use Rattle.std.specs.List.{flat_map}
 use Rattle.std.proofs.lemmas.List.{length-append, map-append}
 use mathlib.Core.List.{IsPrefix}
-use Rattle.smbd_base.specs.Pieces.{Piece, joined, IsRun, IsWhole, AreWhole, IsRest, AreFilled, SplitsInto}
+use Rattle.smbd_base.specs.Pieces.{Piece, joined, IsUnbroken, IsWhole, AreWhole, IsRest, AreFilled, SplitsInto}
 use Rattle.smbd_base.proofs.RunLemmas.{pieces_in}
 
 -- what is left of a run, where it is not empty
@@ -38,7 +38,7 @@ same_run (p ∷ q ∷ run) after (p' ∷ q' ∷ other) behind w v filled full e 
     record { front = (let a = h.front in cc); back = h.back }
 
 -- no run stands at the front of pieces after which more is expected
-no_run : (expected : ℕ) (rest run after : List Piece) → 0 < expected → IsRun expected rest → IsWhole run → rest ≡ run ++ after → ⊥
+no_run : (expected : ℕ) (rest run after : List Piece) → 0 < expected → IsUnbroken expected rest → IsWhole run → rest ≡ run ++ after → ⊥
 no_run expected rest [] after more r w e = omega (arith, w.some)
 no_run expected [] (p ∷ run) after more r w e = cc
 no_run expected (p' ∷ rest) (p ∷ []) after more r w e =

@@ -13,7 +13,7 @@ use Rattle.smbd_base.specs.Joint.{IsAfter, taken_frames, taken_before_sending, s
 use Rattle.smbd_base.specs.NegotiateMessages.{request_fault, fault_in_request, response_fault, fault_in_response}
 use Rattle.smbd_base.specs.Pieces.{pieces_of}
 use Rattle.smbd_base.specs.Worked.{three, three_request, three_response, three_client, three_server, empty_frame, with_u16}
-use Rattle.joint_laws.specs.WorkedJoint.{client_legal, server_legal, client_accepted, server_accepted, to_client, to_server, client_credits, server_credits, credits_left, client_after, server_after, Holds, BreakJust, in_client_rules, in_server_rules, in_client_refusal, in_server_refusal, in_frames_to_client, in_frames_to_server, in_client_credits, in_server_credits, in_credits_left, in_order, opened, client_of_two, server_of_one, short_receiver, short_request, short_response, client_crossed, server_crossed}
+use Rattle.joint_laws.specs.WorkedJoint.{client_legal, server_legal, client_accepted, server_accepted, to_client, to_server, client_credits, server_credits, credits_left, client_after, server_after, PartHolds, BreakJust, in_client_rules, in_server_rules, in_client_refusal, in_server_refusal, in_frames_to_client, in_frames_to_server, in_client_credits, in_server_credits, in_credits_left, in_order, opened, client_of_two, server_of_one, short_receiver, short_request, short_response, client_crossed, server_crossed}
 use Rattle.joint_laws.proofs.worked_joint.worked_joint_histories.Goals as goal
 
 -- ---- an end that took none, one or two frames
@@ -63,7 +63,7 @@ granted due.Idle = 0
 pub returns-clause-joint : goal.returns-clause-joint
 unfolding next_event take_fault fault_expecting data_frame_of header_bytes pieces_of request_fault fault_in_request response_fault fault_in_response
 returns-clause-joint c = record {
-  parts = λ client_limits server_limits client server part joint. elim part as (λ p. Holds p client_limits server_limits client server) [
+  parts = λ client_limits server_limits client server part joint. elim part as (λ p. PartHolds p client_limits server_limits client server) [
     | client_legal ↦ joint.linked.client_legal
     | server_legal ↦ joint.linked.server_legal
     | client_accepted ↦ joint.linked.client_accepted

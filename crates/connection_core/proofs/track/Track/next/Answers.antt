@@ -21,22 +21,22 @@ returns-then-is_post_due c =
     let g = standing_going t.side t.limits t.past c.standing.result c.standing.ensures.standing c.in-Declining.is c.standing.ensures.opened in
     sym (next-post t.side t.limits t.past g (sym c.if-is_post_due.ensures))
 
-pub returns-then-is_opening : goal.returns-then-is_opening
-returns-then-is_opening c =
+pub returns-then-is_negotiating : goal.returns-then-is_negotiating
+returns-then-is_negotiating c =
     let t = c.args.self.now in
     let g = standing_going t.side t.limits t.past c.standing.result c.standing.ensures.standing c.in-Declining.is c.standing.ensures.opened in
-    ap (λ (f : List ℕ). due.Emit f) c.in_ok-opening_frame.ensures
-    ∙ sym (next-opening t.side t.limits t.past g (sym c.if-is_post_due.ensures) (sym c.if-is_opening.ensures))
+    ap (λ (f : List ℕ). due.Emit f) c.in_ok-negotiation_frame.ensures
+    ∙ sym (next-opening t.side t.limits t.past g (sym c.if-is_post_due.ensures) (sym c.if-is_negotiating.ensures))
 
 pub returns-then-is_sending : goal.returns-then-is_sending
 returns-then-is_sending c =
     let t = c.args.self.now in
     let g = standing_going t.side t.limits t.past c.standing.result c.standing.ensures.standing c.in-Declining.is c.standing.ensures.opened in
     ap (λ (f : List ℕ). due.Emit f) c.in_ok-frame_due.ensures
-    ∙ sym (next-sending t.side t.limits t.past g (sym c.if-is_post_due.ensures) (sym c.if-is_opening.ensures) (sym c.if-is_sending.ensures))
+    ∙ sym (next-sending t.side t.limits t.past g (sym c.if-is_post_due.ensures) (sym c.if-is_negotiating.ensures) (sym c.if-is_sending.ensures))
 
 pub returns : goal.returns
 returns c =
     let t = c.args.self.now in
     let g = standing_going t.side t.limits t.past c.standing.result c.standing.ensures.standing c.in-Declining.is c.standing.ensures.opened in
-    sym (next-idle t.side t.limits t.past g (sym c.if-is_post_due.ensures) (sym c.if-is_opening.ensures) (sym c.if-is_sending.ensures))
+    sym (next-idle t.side t.limits t.past g (sym c.if-is_post_due.ensures) (sym c.if-is_negotiating.ensures) (sym c.if-is_sending.ensures))
