@@ -39,7 +39,7 @@ fn write_once<K: Sink>(rt: &impl Abort, sink: &mut K, piece: &[u8]) -> Result<us
 fn a_memory_source_gives_its_bytes_and_fails_at_the_listed_calls(
     rt: HostRuntime,
 ) -> Result<(), Fail> {
-    let cases: [(u32, usize, &[u32], [Result<usize, Failed>; 6]); 4] = [
+    const CASES: &[(u32, usize, &[u32], [Result<usize, Failed>; 6])] = &[
         (9, 3, &[], [Ok(3), Ok(2), Ok(0), Ok(0), Ok(0), Ok(0)]),
         (2, 8, &[2], [Ok(2), Err(Failed), Ok(2), Ok(1), Ok(0), Ok(0)]),
         (
@@ -55,7 +55,7 @@ fn a_memory_source_gives_its_bytes_and_fails_at_the_listed_calls(
             [Err(Failed), Ok(5), Err(Failed), Ok(0), Ok(0), Ok(0)],
         ),
     ];
-    for (most, room, fail, answers) in cases {
+    for &(most, room, fail, answers) in CASES {
         assert!(rt; 1 <= most);
         let mut source = MemorySource::open(rt.alloc(), TEXT, most, fail)?;
         let mut got = Vec::new(rt.alloc());
@@ -75,7 +75,7 @@ fn a_memory_source_gives_its_bytes_and_fails_at_the_listed_calls(
 fn a_memory_sink_takes_bytes_and_fails_at_the_listed_calls_and_where_it_is_full(
     rt: HostRuntime,
 ) -> Result<(), Fail> {
-    let cases: [(u32, u32, &[u32], [Result<usize, Failed>; 4], &[u8]); 4] = [
+    const CASES: &[(u32, u32, &[u32], [Result<usize, Failed>; 4], &[u8])] = &[
         (
             9,
             9,
@@ -105,7 +105,7 @@ fn a_memory_sink_takes_bytes_and_fails_at_the_listed_calls_and_where_it_is_full(
             b"",
         ),
     ];
-    for (room, most, fail, answers, taken) in cases {
+    for &(room, most, fail, answers, taken) in CASES {
         assert!(rt; 1 <= most);
         let mut sink = MemorySink::open(rt.alloc(), room, most, fail)?;
         for answer in answers {
@@ -202,13 +202,13 @@ fn a_write_sink_fails_where_its_writer_errs_or_takes_nothing(rt: HostRuntime) ->
 
 #[test]
 fn a_whole_piece_is_written_or_a_front_of_it(rt: HostRuntime) -> Result<(), Fail> {
-    let cases: [(u32, &[u32], &[u8], Result<(), Failed>, &[u8]); 4] = [
+    const CASES: &[(u32, &[u32], &[u8], Result<(), Failed>, &[u8])] = &[
         (9, &[], b"hello", Ok(()), b"hello"),
         (9, &[], b"", Ok(()), b""),
         (9, &[3], b"hello", Err(Failed), b"he"),
         (4, &[], b"hello", Err(Failed), b"hell"),
     ];
-    for (room, fail, piece, answer, taken) in cases {
+    for &(room, fail, piece, answer, taken) in CASES {
         let mut sink = MemorySink::open(rt.alloc(), room, 1, fail)?;
         assert_eq!(rt; write_whole(&mut sink, piece), answer);
         assert_eq!(rt; sink.taken(), taken);
@@ -218,14 +218,14 @@ fn a_whole_piece_is_written_or_a_front_of_it(rt: HostRuntime) -> Result<(), Fail
 
 #[test]
 fn a_buffer_is_filled_until_it_is_full_or_the_source_ends(rt: HostRuntime) -> Result<(), Fail> {
-    let cases: [(&[u32], usize, Result<Filled, Failed>, &[u8]); 5] = [
+    const CASES: &[(&[u32], usize, Result<Filled, Failed>, &[u8])] = &[
         (&[], 4, Ok(Filled::Full), b"-hel"),
         (&[], 6, Ok(Filled::Full), b"-hello"),
         (&[], 8, Ok(Filled::End), b"-hello"),
         (&[1], 1, Ok(Filled::Full), b"-"),
         (&[3], 8, Err(Failed), b"-he"),
     ];
-    for (fail, most, answer, bytes) in cases {
+    for &(fail, most, answer, bytes) in CASES {
         let mut source = MemorySource::open(rt.alloc(), TEXT, 1, fail)?;
         let mut got = Vec::with_capacity(rt.alloc(), 8)?;
         got.push(b'-')?;

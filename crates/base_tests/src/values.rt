@@ -6,7 +6,7 @@ use std::test::Fail;
 #[test]
 fn limits_lie_in_their_ranges(rt: HostRuntime) {
     use LimitFault::*;
-    let cases: [((u16, u32, u32, u32, u16), Option<LimitFault>); 16] = [
+    const CASES: &[((u16, u32, u32, u32, u16), Option<LimitFault>)] = &[
         ((3, 128, 128, 131_072, 16), None),
         ((255, 8_192, 8_192, 1_048_576, 255), None),
         ((255, 1_364, 8_192, 1_048_576, 64), None),
@@ -24,7 +24,7 @@ fn limits_lie_in_their_ranges(rt: HostRuntime) {
         ((255, 8_193, 8_193, 1_048_576, 64), Some(SendSize)),
         ((255, 1_364, 8_192, 131_071, 15), Some(FragmentedSize)),
     ];
-    for (numbers, fault) in cases {
+    for &(numbers, fault) in CASES {
         let (credits, send_size, receive_size, fragmented_size, pages) = numbers;
         let checked = EndLimits::check(credits, send_size, receive_size, fragmented_size, pages);
         assert_eq!(rt; checked.err(), fault, "{numbers:?}");
@@ -36,7 +36,7 @@ fn limits_lie_in_their_ranges(rt: HostRuntime) {
 #[test]
 fn a_frame_grants_the_credits_of_its_kind(rt: HostRuntime) -> Result<(), Fail> {
     let bytes: &[u8] = b"\x00\x01\x02\x03\x04\x05\x06\x07\x08\x09\x0a\x0b\x0c";
-    let cases: [(EndId, bool, usize, u16); 8] = [
+    const CASES: &[(EndId, bool, usize, u16)] = &[
         (EndId::Client, true, 13, 0),
         (EndId::Server, true, 13, 0x0b0a),
         (EndId::Server, true, 12, 0x0b0a),
@@ -46,7 +46,7 @@ fn a_frame_grants_the_credits_of_its_kind(rt: HostRuntime) -> Result<(), Fail> {
         (EndId::Client, false, 3, 0),
         (EndId::Server, false, 0, 0),
     ];
-    for (from, first, length, granted) in cases {
+    for &(from, first, length, granted) in CASES {
         assert!(rt; length <= bytes.len());
         let frame = Frame::copy_of(rt.alloc(), &bytes[..length])?;
         assert_eq!(rt;

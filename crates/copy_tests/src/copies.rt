@@ -116,11 +116,11 @@ fn copied(
 
 #[test]
 fn a_copy_gives_its_bytes_and_tells_its_faults(rt: HostRuntime) -> Result<(), Fail> {
-    let by_one = Outside { most: 1, ..FAIR };
-    let cases: [(&[u8], Outside<'_>, Status, &[u8], &[u8]); 9] = [
+    const BY_ONE: Outside<'static> = Outside { most: 1, ..FAIR };
+    const CASES: &[(&[u8], Outside<'static>, Status, &[u8], &[u8])] = &[
         (b"", FAIR, Status::Done, b"", LOG_OF_NOTHING),
         (b"abc", FAIR, Status::Done, b"abc", LOG_OF_ABC),
-        (b"abc", by_one, Status::Done, b"abc", LOG_OF_ABC),
+        (b"abc", BY_ONE, Status::Done, b"abc", LOG_OF_ABC),
         (
             b"abc",
             Outside {
@@ -135,7 +135,7 @@ fn a_copy_gives_its_bytes_and_tells_its_faults(rt: HostRuntime) -> Result<(), Fa
             b"abc",
             Outside {
                 source_fails: &[3],
-                ..by_one
+                ..BY_ONE
             },
             Status::ReadFault,
             b"",
@@ -182,7 +182,7 @@ fn a_copy_gives_its_bytes_and_tells_its_faults(rt: HostRuntime) -> Result<(), Fa
             b"C post 255\nS post 255\nC emit 0",
         ),
     ];
-    for (bytes, outside, status, sink, log) in cases {
+    for &(bytes, outside, status, sink, log) in CASES {
         assert!(rt; 1 <= outside.most);
         let ran = copied(rt.alloc(), &PUT, bytes, outside)?;
         assert_eq!(rt; ran.status, status);
@@ -236,7 +236,7 @@ fn most_unanswered(log: &[u8]) -> usize {
 #[test]
 fn a_copy_carries_messages_of_many_pieces(rt: HostRuntime) -> Result<(), Fail> {
     // the bytes, the requests that it takes, and how many of them are unanswered at once
-    let cases: [(u32, usize, usize); 8] = [
+    const CASES: &[(u32, usize, usize)] = &[
         (1_316, 2, 1),
         (1_317, 2, 1),
         (65_536, 2, 1),
@@ -246,7 +246,7 @@ fn a_copy_carries_messages_of_many_pieces(rt: HostRuntime) -> Result<(), Fail> {
         (262_145, 6, 4),
         (600_000, 11, 4),
     ];
-    for (length, requests, unanswered) in cases {
+    for &(length, requests, unanswered) in CASES {
         let bytes = some_bytes(rt.alloc(), length)?;
         let ran = copied(rt.alloc(), &PUT, &bytes, WIDE)?;
         assert_eq!(rt; ran.status, Status::Done, "{length} bytes");
@@ -307,7 +307,7 @@ fn a_copy_carries_16777216_bytes_and_not_one_more(rt: HostRuntime) -> Result<(),
 #[test]
 fn a_long_copy_tells_its_faults(rt: HostRuntime) -> Result<(), Fail> {
     // how it ends, how many bytes the sink has, and how many requests the log tells
-    let cases: [(Outside<'_>, Status, usize, usize); 7] = [
+    const CASES: &[(Outside<'static>, Status, usize, usize)] = &[
         (WIDE, Status::Done, 300_000, 6),
         (
             Outside {
@@ -365,7 +365,7 @@ fn a_long_copy_tells_its_faults(rt: HostRuntime) -> Result<(), Fail> {
         ),
     ];
     let bytes = some_bytes(rt.alloc(), 300_000)?;
-    for (outside, status, stored, requests) in cases {
+    for &(outside, status, stored, requests) in CASES {
         assert!(rt; 1 <= outside.most);
         let ran = copied(rt.alloc(), &PUT, &bytes, outside)?;
         assert_eq!(rt; ran.status, status);
@@ -378,7 +378,7 @@ fn a_long_copy_tells_its_faults(rt: HostRuntime) -> Result<(), Fail> {
 
 #[test]
 fn other_words_are_refused_before_anything_is_read(rt: HostRuntime) -> Result<(), Fail> {
-    let cases: [&[&str]; 20] = [
+    const CASES: &[&[&str]] = &[
         &[],
         &["show"],
         &["sim", "--credits"],
@@ -400,7 +400,7 @@ fn other_words_are_refused_before_anything_is_read(rt: HostRuntime) -> Result<()
         &["put", "--chanel", "none"],
         &["put", "--channel", "none", "none"],
     ];
-    for texts in cases {
+    for &texts in CASES {
         let words = words_of(rt.alloc(), texts)?;
         let mut source = MemorySource::open(rt.alloc(), b"abc", 1, &[1])?;
         let mut sink = MemorySink::open(rt.alloc(), 9, 1, &[])?;

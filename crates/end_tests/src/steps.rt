@@ -184,20 +184,25 @@ fn follow(
     Ok(())
 }
 
-fn agreed(read_write_max: Option<u32>) -> Agreed {
-    Agreed {
-        send_size: 1_364,
-        message_max: 1_048_576,
-        read_write_max,
-        credits_requested: 255,
-    }
-}
+/// What a server of the usual limits has agreed with a client of them.
+const AGREED: Agreed = Agreed {
+    send_size: 1_364,
+    message_max: 1_048_576,
+    read_write_max: None,
+    credits_requested: 255,
+};
+
+/// What the client has agreed then.
+const CLIENT_AGREED: Agreed = Agreed {
+    read_write_max: Some(1_048_576),
+    ..AGREED
+};
 
 #[test]
 fn an_end_of_the_usual_limits(rt: HostRuntime) -> Result<(), Fail> {
     use EndId::{Client, Server};
     use Step::*;
-    let cases: [(&str, EndId, &[Step]); 5] = [
+    const CASES: &[(&str, EndId, &[Step])] = &[
         (
             "negotiates and is cut",
             Client,
@@ -211,7 +216,7 @@ fn an_end_of_the_usual_limits(rt: HostRuntime) -> Result<(), Fail> {
                 Takes(RESPONSE),
                 Posts(1),
                 Counts(255, 0, 255),
-                Settles(Some(agreed(Some(1_048_576)))),
+                Settles(Some(CLIENT_AGREED)),
                 Cuts,
                 Idles,
                 Declines(b"abc", SubmitFault::Closed),
@@ -231,7 +236,7 @@ fn an_end_of_the_usual_limits(rt: HostRuntime) -> Result<(), Fail> {
                 Posts(1),
                 Sends(RESPONSE),
                 Counts(0, 255, 0),
-                Settles(Some(agreed(None))),
+                Settles(Some(AGREED)),
                 Delivers(ABC, b"abc"),
                 Posts(1),
                 Idles,
@@ -272,7 +277,7 @@ fn an_end_of_the_usual_limits(rt: HostRuntime) -> Result<(), Fail> {
             ],
         ),
     ];
-    for (name, side, steps) in cases {
+    for &(name, side, steps) in CASES {
         follow(&rt, rt.alloc(), name, side, EndLimits::usual(), steps)?;
     }
     Ok(())
@@ -282,7 +287,7 @@ fn an_end_of_the_usual_limits(rt: HostRuntime) -> Result<(), Fail> {
 fn an_end_of_three_credits(rt: HostRuntime) -> Result<(), Fail> {
     use EndId::{Client, Server};
     use Step::*;
-    let cases: [(&str, EndId, &[Step]); 5] = [
+    const CASES: &[(&str, EndId, &[Step])] = &[
         (
             "grants with nothing to send",
             Client,
@@ -370,7 +375,7 @@ fn an_end_of_three_credits(rt: HostRuntime) -> Result<(), Fail> {
         ),
     ];
     let limits = EndLimits::check(3, 1_364, 8_192, 1_048_576, 64)?;
-    for (name, side, steps) in cases {
+    for &(name, side, steps) in CASES {
         follow(&rt, rt.alloc(), name, side, limits, steps)?;
     }
     Ok(())

@@ -53,7 +53,7 @@ fn read(alloc: Global, text: &str) -> Result<(Side, Said), LineFault> {
 
 #[test]
 fn lines_read_as_what_they_say(rt: HostRuntime) {
-    let cases: [(&str, Side, Said); 22] = [
+    const CASES: &[(&str, Side, Said)] = &[
         ("C take 1 20", Side::C, Said::Take(1, 20)),
         (
             "S take 4611686018427387903 8192",
@@ -125,14 +125,14 @@ fn lines_read_as_what_they_say(rt: HostRuntime) {
         ),
         ("S take 1 1", Side::S, Said::Take(1, 1)),
     ];
-    for (text, side, line) in cases {
+    for &(text, side, line) in CASES {
         assert_eq!(rt; read(rt.alloc(), text), Ok((side, line)), "{text}");
     }
 }
 
 #[test]
 fn other_texts_have_their_first_fault(rt: HostRuntime) {
-    let cases: [(&str, LineFault); 61] = [
+    const CASES: &[(&str, LineFault)] = &[
         ("", Side),
         (" ", Side),
         ("X cut", Side),
@@ -195,7 +195,7 @@ fn other_texts_have_their_first_fault(rt: HostRuntime) {
         ("C emit 0g", Hex),
         ("C emit 0A", Hex),
     ];
-    for (text, fault) in cases {
+    for &(text, fault) in CASES {
         assert_eq!(rt; read(rt.alloc(), text), Err(fault), "{text}");
     }
 }
@@ -203,14 +203,14 @@ fn other_texts_have_their_first_fault(rt: HostRuntime) {
 #[test]
 fn the_longest_frame_has_8192_bytes(rt: HostRuntime) -> Result<(), Fail> {
     // digits of the frame, what follows them, and what the line is
-    let cases: [(usize, &str, Result<(Side, Said), LineFault>); 5] = [
+    const CASES: &[(usize, &str, Result<(Side, Said), LineFault>)] = &[
         (8_192, "", Ok((Side::C, Said::Emit(8_192)))),
         (8_193, "", Err(Hex)),
         (8_192, "0", Err(Hex)),
         (8_192, " 1", Err(Number)),
         (8_197, "", Err(Long)),
     ];
-    for (bytes, after, answer) in cases {
+    for &(bytes, after, answer) in CASES {
         let mut text = String::from_str(rt.alloc(), "C emit ")?;
         for _ in 0..bytes {
             text.push_str("0f")?;
@@ -269,7 +269,7 @@ fn posts(alloc: Global, last: u16) -> Result<Vec<Line>, Fail>
 #[test]
 fn lines_are_written_with_line_feeds(rt: HostRuntime) -> Result<(), Fail> {
     // the room of the log, what it takes at once and the calls that fail; then the answer, and what it took
-    let cases: [(u32, u32, &[u32], Result<(), Failed>, &[u8]); 5] = [
+    const CASES: &[(u32, u32, &[u32], Result<(), Failed>, &[u8])] = &[
         (
             100,
             100,
@@ -295,7 +295,7 @@ fn lines_are_written_with_line_feeds(rt: HostRuntime) -> Result<(), Fail> {
         ),
     ];
     let lines = posts(rt.alloc(), 2)?;
-    for (room, most, fail, answer, taken) in cases {
+    for &(room, most, fail, answer, taken) in CASES {
         assert!(rt; 1 <= most);
         let mut log = MemorySink::open(rt.alloc(), room, most, fail)?;
         assert_eq!(rt;

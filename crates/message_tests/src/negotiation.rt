@@ -64,7 +64,7 @@ fn response_with(place: usize, part: &[u8]) -> [u8; 32]
 #[test]
 fn a_request_has_its_first_fault(rt: HostRuntime) {
     // each field at its bound and beside it
-    let cases: [(usize, &[u8], Option<NegotiateFault>); 26] = [
+    const CASES: &[(usize, &[u8], Option<NegotiateFault>)] = &[
         (0, b"\x00\x00", None),
         (0, b"\xff\x00", None),
         (0, b"\x01\x01", Some(Version)),
@@ -97,7 +97,7 @@ fn a_request_has_its_first_fault(rt: HostRuntime) {
             Some(Credits),
         ),
     ];
-    for (place, part, expected) in cases {
+    for &(place, part, expected) in CASES {
         assert!(rt; place <= 20);
         assert!(rt; part.len() <= 20 - place);
         let bytes = request_with(place, part);
@@ -109,7 +109,7 @@ fn a_request_has_its_first_fault(rt: HostRuntime) {
 fn a_response_has_its_first_fault(rt: HostRuntime) {
     let usual = EndLimits::usual();
     // each field at its bound and beside it
-    let cases: [(usize, &[u8], Option<NegotiateFault>); 37] = [
+    const CASES: &[(usize, &[u8], Option<NegotiateFault>)] = &[
         (0, b"\x00\x00", None),
         (0, b"\xff\xff", None),
         (2, b"\x00\x00", None),
@@ -153,7 +153,7 @@ fn a_response_has_its_first_fault(rt: HostRuntime) {
         (24, b"\x7f\x00\x00\x00\xff\xff\x01\x00", Some(ReceiveSize)),
         (0, REFUSAL_BYTES, Some(Status)),
     ];
-    for (place, part, expected) in cases {
+    for &(place, part, expected) in CASES {
         assert!(rt; place <= 32);
         assert!(rt; part.len() <= 32 - place);
         let bytes = response_with(place, part);
@@ -200,7 +200,7 @@ fn a_client_is_granted_and_sent_no_more_than_its_limits(rt: HostRuntime) {
     let own = EndLimits::check(3, 1_364, 128, 1_048_576, 64);
     assert!(rt; own.is_ok());
     let own = own.unwrap_or(EndLimits::usual());
-    let cases: [(&[u8; 12], Option<NegotiateFault>); 5] = [
+    const CASES: &[(&[u8; 12], Option<NegotiateFault>)] = &[
         (b"\x03\x00\x00\x00\x00\x00\x00\x00\x10\x00\x80\x00", None),
         (b"\x02\x00\x00\x00\x00\x00\x00\x00\x10\x00\x7f\x00", None),
         (
@@ -216,7 +216,7 @@ fn a_client_is_granted_and_sent_no_more_than_its_limits(rt: HostRuntime) {
             Some(Granted),
         ),
     ];
-    for (part, expected) in cases {
+    for &(part, expected) in CASES {
         let bytes = response_with(10, part);
         assert_eq!(rt; read_response(&bytes, &own).err(), expected, "{part:?}");
     }
@@ -283,9 +283,11 @@ fn writes_the_one_form(rt: HostRuntime) {
     let mut request = [7; 20];
     write_request(&EndLimits::usual(), &mut request);
     assert_eq!(rt; &request, REQUEST_BYTES);
-    let cases: [(NegotiateResponse, &[u8; 32]); 3] = [
+    let mut refused = [7; 32];
+    write_response(&refusal(), &mut refused);
+    assert_eq!(rt; &refused, REFUSAL_BYTES);
+    const CASES: &[(NegotiateResponse, &[u8; 32])] = &[
         (RESPONSE, RESPONSE_BYTES),
-        (refusal(), REFUSAL_BYTES),
         (
             NegotiateResponse {
                 min_version: 0x0201,
@@ -302,7 +304,7 @@ fn writes_the_one_form(rt: HostRuntime) {
             b"\x01\x02\x03\x04\x05\x06\x00\x00\x07\x08\x09\x0a\x0b\x0c\x0d\x0e\x0f\x10\x11\x12\x13\x14\x15\x16\x17\x18\x19\x1a\x1b\x1c\x1d\x1e",
         ),
     ];
-    for (response, expected) in cases {
+    for &(response, expected) in CASES {
         let mut out = [7; 32];
         write_response(&response, &mut out);
         assert_eq!(rt; &out, expected, "{response:?}");
@@ -320,7 +322,7 @@ const AGREED: Agreed = Agreed {
 #[test]
 fn answers_with_the_smaller_of_asked_and_grantable(rt: HostRuntime) {
     let usual = EndLimits::usual();
-    let cases: [(NegotiateRequest, u16, NegotiateResponse, Agreed); 6] = [
+    const CASES: &[(NegotiateRequest, u16, NegotiateResponse, Agreed)] = &[
         (REQUEST, 255, RESPONSE, AGREED),
         (REQUEST, 256, RESPONSE, AGREED),
         (
@@ -377,7 +379,7 @@ fn answers_with_the_smaller_of_asked_and_grantable(rt: HostRuntime) {
             },
         ),
     ];
-    for (request, grantable, response, agreed) in cases {
+    for &(request, grantable, response, agreed) in CASES {
         assert!(rt;
             grantable >= 1 && request.min_version <= 0x0100 && request.max_version >= 0x0100
         );
@@ -394,13 +396,13 @@ fn answers_with_the_smaller_of_asked_and_grantable(rt: HostRuntime) {
 #[test]
 fn a_client_settles_what_the_server_says(rt: HostRuntime) {
     let usual = EndLimits::usual();
-    let read_write_max = Some(1_048_576);
+    const READ_WRITE_MAX: Option<u32> = Some(1_048_576);
     // MaxReadWriteSize, PreferredSendSize, MaxReceiveSize and MaxFragmentedSize
-    let cases: [(&[u8; 16], Agreed); 3] = [
+    const CASES: &[(&[u8; 16], Agreed)] = &[
         (
             b"\x00\x00\x10\x00\x54\x05\x00\x00\x00\x20\x00\x00\x00\x00\x10\x00",
             Agreed {
-                read_write_max,
+                read_write_max: READ_WRITE_MAX,
                 ..AGREED
             },
         ),
@@ -409,7 +411,7 @@ fn a_client_settles_what_the_server_says(rt: HostRuntime) {
             Agreed {
                 send_size: 128,
                 message_max: 131_072,
-                read_write_max,
+                read_write_max: READ_WRITE_MAX,
                 ..AGREED
             },
         ),
@@ -421,7 +423,7 @@ fn a_client_settles_what_the_server_says(rt: HostRuntime) {
             },
         ),
     ];
-    for (part, agreed) in cases {
+    for &(part, agreed) in CASES {
         let bytes = response_with(16, part);
         let settled = match read_response(&bytes, &usual) {
             Ok(response) => Ok(settle(&response, &usual)),

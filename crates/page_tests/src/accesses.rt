@@ -271,7 +271,7 @@ fn answers_at_the_bounds_of_the_numbers(rt: HostRuntime) -> Result<(), Fail> {
     const MOST: u32 = 0xffff_ffff;
     /// The token of page 1 in its last generation.
     const FINAL: u32 = 0xffff_ff01;
-    let cases: [(Right, Before, Call, Outcome); 46] = [
+    const CASES: &[(Right, Before, Call, Outcome)] = &[
         // the record's own bytes, and one byte more on each side
         (Fetch, Live, Reads(4096, 257, 4), Copied(*b"abcd")),
         (Fetch, Live, Reads(4099, 257, 1), Copied(*b"d...")),
@@ -342,7 +342,7 @@ fn answers_at_the_bounds_of_the_numbers(rt: HostRuntime) -> Result<(), Fail> {
         (Place, Spent, Writes(4096, FINAL, 4), Refused(Stale)),
         (Fetch, Spent, Reads(4096, 1, 4), Refused(Unknown)),
     ];
-    for (right, before, call, outcome) in cases {
+    for &(right, before, call, outcome) in CASES {
         follow(&rt, rt.alloc(), right, before, call, outcome)?;
     }
     Ok(())

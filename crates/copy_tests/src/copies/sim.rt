@@ -48,10 +48,8 @@ fn run_of(alloc: Global, texts: &[&str], script: &[u8]) -> Result<Ran, NoMemory>
 
 #[test]
 fn a_script_gives_its_log(rt: HostRuntime) -> Result<(), Fail> {
-    let last_line_not_ended = &MESSAGE_OF_ABC[..MESSAGE_OF_ABC.len() - 1];
-    let cases: [(&[&str], &[u8], &[u8]); 7] = [
+    const CASES: &[(&[&str], &[u8], &[u8])] = &[
         (&SIM, MESSAGE_OF_ABC, LOG_OF_MESSAGE),
-        (&SIM, last_line_not_ended, LOG_OF_MESSAGE),
         (&["sim", "--credits", "255"], MESSAGE_OF_ABC, LOG_OF_MESSAGE),
         (&SIM, b"", LOG_OF_NOTHING),
         (&["sim", "--credits", "3"], b"", b"C post 3\nS post 3\n"),
@@ -66,12 +64,16 @@ fn a_script_gives_its_log(rt: HostRuntime) -> Result<(), Fail> {
             b"C post 255\nS post 255\nS submit 131072\n",
         ),
     ];
-    for (texts, script, log) in cases {
+    for &(texts, script, log) in CASES {
         let ran = run_of(rt.alloc(), texts, script)?;
         assert_eq!(rt; ran.status, Status::Done);
         assert_eq!(rt; ran.sink.taken(), log);
         assert_eq!(rt; ran.log.taken(), b"".as_slice());
     }
+    let last_line_not_ended = &MESSAGE_OF_ABC[..MESSAGE_OF_ABC.len() - 1];
+    let ran = run_of(rt.alloc(), &SIM, last_line_not_ended)?;
+    assert_eq!(rt; ran.status, Status::Done);
+    assert_eq!(rt; ran.sink.taken(), LOG_OF_MESSAGE);
     Ok(())
 }
 
@@ -197,7 +199,7 @@ fn three_credits_carry_a_message_of_200_pieces(rt: HostRuntime) -> Result<(), Fa
 
 #[test]
 fn the_first_bad_line_is_named_and_nothing_is_written(rt: HostRuntime) -> Result<(), Fail> {
-    let cases: [(&[u8], u64); 24] = [
+    const CASES: &[(&[u8], u64)] = &[
         (b"drive C\ndrive S\ndrive X\n", 3),
         (b"\n", 1),
         (b"drive C\n\ndrive C\n", 2),
@@ -223,7 +225,7 @@ fn the_first_bad_line_is_named_and_nothing_is_written(rt: HostRuntime) -> Result
         (b"\0", 1),
         (b"drive C\ndriv", 2),
     ];
-    for (script, line) in cases {
+    for &(script, line) in CASES {
         let ran = run_of(rt.alloc(), &SIM, script)?;
         assert_eq!(rt; ran.status, Status::BadInput { line });
         assert_eq!(rt; ran.sink.taken(), b"".as_slice());
@@ -234,7 +236,7 @@ fn the_first_bad_line_is_named_and_nothing_is_written(rt: HostRuntime) -> Result
 
 #[test]
 fn a_run_tells_the_faults_of_its_streams(rt: HostRuntime) -> Result<(), Fail> {
-    let cases: [(Outside<'_>, Status, &[u8]); 5] = [
+    const CASES: &[(Outside<'static>, Status, &[u8])] = &[
         (
             Outside {
                 source_fails: &[1],
@@ -278,7 +280,7 @@ fn a_run_tells_the_faults_of_its_streams(rt: HostRuntime) -> Result<(), Fail> {
             b"C post 255\nS post 25",
         ),
     ];
-    for (outside, status, written) in cases {
+    for &(outside, status, written) in CASES {
         assert!(rt; 1 <= outside.most);
         let ran = copied(rt.alloc(), &SIM, MESSAGE_OF_ABC, outside)?;
         assert_eq!(rt; ran.status, status);
