@@ -2,7 +2,7 @@
 use Rattle.std.specs.Prelude.{◌≡◌, ℕ, true, List, [], ◌∷◌}
 use Rattle.smbd_base.specs.declared.end_id.EndId.TheVariants.{Client, Server}
 use Rattle.smbd_base.specs.declared.event.Event.{Event}
-use Rattle.smbd_base.specs.declared.event.Event.TheVariants.{Post, Submit, Emit, Take, Cut}
+use Rattle.smbd_base.specs.declared.event.Event.TheVariants.{Post, Submit, Take, Cut}
 use Rattle.smbd_base.specs.Limits.{usual_limits}
 use Rattle.smbd_base.specs.NegotiateMessages.{request_bytes, request_of_limits}
 use Rattle.world_core.specs.declared.choice.Choice.{Choice}

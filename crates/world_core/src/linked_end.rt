@@ -1,11 +1,13 @@
 //! An end with the frames in flight to it, and the messages that it has delivered.
 
-ghost use Rattle.std.specs.Prelude.{◌≡◌, [], ◌∷◌, ◌++◌, ◌<◌, true, false, Some, None, List, IfOk, OnOk, OnErr, option_to_list, reverse};
+ghost use Rattle.std.specs.Prelude.{◌≡◌, [], ◌∷◌, ◌++◌, ◌<◌, true, false, Some, None, List, IfOk, OnOk, OnErr, option_copied, option_to_list, reverse};
 ghost use Rattle.smbd_base.specs.declared.event.Event.TheVariants as events;
-ghost use Rattle.smbd_base.specs.Delivery.{messages_delivered};
+ghost use Rattle.smbd_base.specs.Delivery.{message_brought, messages_delivered};
 ghost use Rattle.smbd_base.specs.History as spec;
 ghost use Rattle.smbd_base.specs.Limits.{IsLawful};
 ghost use Rattle.world_core.specs.Choices.{answer_of};
+ghost use Rattle.world_core.specs.Kept.{newest_in};
+ghost use Rattle.world_core.specs.Newest.{newest_brought};
 ghost use Rattle.world_core.specs.Linked.{Linked, submission, turn, delivery, event_at, own_after, peer_after, TakesNext};
 
 use crate::choice::{Choice, Step};
@@ -21,7 +23,8 @@ pub struct LinkedEnd {
     end: End,
     arriving: VecDeque<Frame>,
     delivered: Vec<Message>,
-    is_cut: bool,
+    /// Whether the newest event has delivered the last of these messages.
+    is_newest: bool,
 }
 
 impl Model for LinkedEnd {
@@ -32,7 +35,7 @@ impl Model for LinkedEnd {
 
     ghost view = { λ l. record { side = l.end.side; limits = l.end.limits; past = l.end.past; arriving = l.arriving.items } };
 
-    ghost invariant = { λ l. IsKept l.end l.delivered.items l.is_cut };
+    ghost invariant = { λ l. IsKept l.end l.delivered.items l.is_newest };
 }
 
 impl LinkedEnd {
@@ -48,7 +51,7 @@ impl LinkedEnd {
             end,
             arriving: VecDeque::new(alloc),
             delivered: Vec::new(alloc),
-            is_cut: false,
+            is_newest: false,
         })
     }
 
@@ -56,7 +59,7 @@ impl LinkedEnd {
     pub fn is_cut(&self) -> bool
         ensures { result ≡ spec.is_cut self.now.past }
     {
-        self.is_cut
+        self.end.is_cut()
     }
 
     /// Cuts the end.
@@ -65,7 +68,7 @@ impl LinkedEnd {
         ensures { self.new ≡ record self.old { past = events.Cut ∷ self.old.past } }
     {
         self.end.cut();
-        self.is_cut = true;
+        self.is_newest = false;
     }
 
     /// Submits a message, where the end does not refuse it.
@@ -74,7 +77,9 @@ impl LinkedEnd {
         ensures added { OnOk result (self.new ≡ own_after self.old (submission self.old message.now)) }
         ensures same { OnErr result (self.new ≡ self.old) }
     {
-        let Err(refused) = self.end.submit(message.clone()?) else {
+        let copy = copy_of(message)?;
+        let Err(refused) = self.end.submit(copy) else {
+            self.is_newest = false;
             return Ok(Step::Did);
         };
         match fault_of(refused) {
@@ -95,6 +100,7 @@ impl LinkedEnd {
         match self.end.next()? {
             Next::Post(_) => {
                 self.end.commit();
+                self.is_newest = false;
                 Ok(Step::Did)
             }
             Next::Emit(_) if link_cut => {
@@ -104,6 +110,7 @@ impl LinkedEnd {
             Next::Emit(frame) => {
                 peer.arriving.push_back(frame)?;
                 self.end.commit();
+                self.is_newest = false;
                 Ok(Step::Did)
             }
             Next::Close => {
@@ -134,7 +141,7 @@ impl LinkedEnd {
             return Ok(Step::Nothing);
         };
         let frame = first.clone()?;
-        take(&mut self.end, &mut self.delivered, frame)?;
+        self.is_newest = take(&mut self.end, &mut self.delivered, frame)?;
         drop(self.arriving.pop_front());
         Ok(Step::Did)
     }
@@ -153,24 +160,36 @@ impl LinkedEnd {
     {
         self.delivered.as_slice()
     }
+
+    /// The message that the newest event has delivered, where it is the Take of a frame that ends one.
+    pub fn newest_delivered(&self) -> Option<&Message>
+        ensures { option_copied result ≡ newest_brought self.now.side self.now.limits self.now.past }
+    {
+        if self.is_newest {
+            self.delivered.last()
+        } else {
+            None
+        }
+    }
 }
 
-/// Takes a frame that is not refused, and keeps the message that it ends.
-fn take(end: &mut End, delivered: &mut Vec<Message>, frame: Frame) -> Result<(), NoMemory>
+/// Takes a frame that is not refused, and keeps the message that it ends. Answers whether it ends one.
+fn take(end: &mut End, delivered: &mut Vec<Message>, frame: Frame) -> Result<bool, NoMemory>
     requires ready { spec.is_ready end.old.side end.old.limits end.old.past ≡ true }
     requires fault { spec.take_fault end.old.side end.old.limits end.old.past frame ≡ None }
     requires kept { delivered.old.items ≡ messages_delivered end.old.side end.old.limits end.old.past }
     ensures added { OnOk result (end.new ≡ record end.old { past = events.Take frame ∷ end.old.past; prepared = None }) }
     ensures delivered { OnOk result (delivered.new.items ≡ messages_delivered end.new.side end.new.limits end.new.past) }
+    ensures newest { IfOk result (λ ends. newest_in ends delivered.new.items ≡ message_brought end.old.side end.old.limits end.old.past frame) }
     ensures same { OnErr result (end.new ≡ end.old) }
     ensures none { OnErr result (delivered.new.items ≡ delivered.old.items) }
 {
     delivered.reserve(1)?;
     match end.take(frame) {
-        Ok(None) => Ok(()),
+        Ok(None) => Ok(false),
         Ok(Some(message)) => {
             delivered.push_reserved(message);
-            Ok(())
+            Ok(true)
         }
         Err(
             TakeRefused {
@@ -180,6 +199,13 @@ fn take(end: &mut End, delivered: &mut Vec<Message>, frame: Frame) -> Result<(),
         ) => Err(NoMemory),
         Err(_) => unreachable!(),
     }
+}
+
+/// A copy of a message that is submitted.
+fn copy_of(message: &Message) -> Result<Message, NoMemory>
+    ensures { IfOk result (λ copy. copy ≡ message.now) }
+{
+    Ok(message.clone()?)
 }
 
 /// Why a submission was refused. The message is let go.

@@ -1,11 +1,12 @@
 //! Two ends on one link, and the run of a script.
 
-ghost use Rattle.std.specs.Prelude.{◌≡◌, ◌∷◌, ◌||◌, Some, None, List, IfOk, OnOk, OnErr, reverse};
+ghost use Rattle.std.specs.Prelude.{◌≡◌, ◌∷◌, ◌||◌, Some, None, List, IfOk, OnOk, OnErr, option_copied, reverse};
 ghost use Rattle.smbd_base.specs.declared.end_id.EndId.TheVariants as side;
 ghost use Rattle.smbd_base.specs.Delivery.{messages_delivered};
 ghost use Rattle.smbd_base.specs.Limits.{IsLawful};
 ghost use Rattle.world_core.specs.Choices.{answer_of, end_of};
 ghost use Rattle.world_core.specs.Linked.{event_at, own_after, peer_after, TakesNext};
+ghost use Rattle.world_core.specs.Newest.{newest_brought};
 ghost use Rattle.world_core.specs.Run.{State, past_of, limits_of, event_chosen, step_of, opened_world, run_of, link_after, order_after, AreJointIn, AreDelivered};
 
 use crate::choice::{Choice, Step};
@@ -103,6 +104,16 @@ impl World {
         match end {
             EndId::Client => self.client.delivered(),
             EndId::Server => self.server.delivered(),
+        }
+    }
+
+    /// The message that the newest event of an end has delivered, where it is the Take of a frame that ends one.
+    pub fn newest_delivered(&self, end: EndId) -> Option<&Message>
+        ensures { option_copied result ≡ newest_brought end (limits_of end self.now) (past_of end self.now) }
+    {
+        match end {
+            EndId::Client => self.client.newest_delivered(),
+            EndId::Server => self.server.newest_delivered(),
         }
     }
 
