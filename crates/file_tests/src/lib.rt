@@ -2,4 +2,16 @@
 #![tactic(auto)]
 
 #[cfg(test)]
+mod gets;
+#[cfg(test)]
 mod messages;
+#[cfg(test)]
+mod pages;
+#[cfg(test)]
+mod puts;
+#[cfg(test)]
+mod putting;
+#[cfg(test)]
+mod refusals;
+#[cfg(test)]
+mod serving;

@@ -1,0 +1,178 @@
+//! Servers of gets: each READ is answered by the bytes that were handed in for it, on both channels.
+
+use crate::pages::Pages;
+use crate::serving::Serving;
+use buffer_descriptor::{Descriptor, Descriptors};
+use file_messages::{
+    Asked, Channel, CopyKind, END, FileFault, READ, Request, read_reply, request_header,
+    write_request,
+};
+use smbd_base::{Message, Token};
+use std::alloc::Global;
+use std::process::Abort;
+
+const MEMORY: &str = "memory";
+
+const LENGTH: u32 = 65_536;
+
+const ALPHABET: &[u8] = b"abcdefghijklmnopqrstuvwxyz";
+
+#[test]
+fn reads_are_answered(rt: HostRuntime) {
+    let whole = alphabets(&rt, rt.alloc());
+    let parts: [&[u8]; 3] = [whole.as_slice(), b"abc", b""];
+    read_all(&rt, rt.alloc(), Channel::None, &parts);
+    read_all(&rt, rt.alloc(), Channel::V1, &parts);
+    read_all(&rt, rt.alloc(), Channel::None, &[b""]);
+    read_all(&rt, rt.alloc(), Channel::V1, &[b""]);
+}
+
+/// 65,536 bytes.
+fn alphabets(rt: &impl Abort, alloc: Global) -> Vec<u8> {
+    let mut bytes = Vec::with_capacity(alloc, 65_550).expect(rt, MEMORY);
+    for _turn in 0..2_521 {
+        bytes.extend_from_slice(ALPHABET).expect(rt, MEMORY);
+    }
+    bytes.truncate(65_536);
+    bytes
+}
+
+/// A get whose READs get these parts, one after another.
+fn read_all(rt: &impl Abort, alloc: Global, channel: Channel, parts: &[&[u8]]) {
+    let mut server = Serving::open(rt, alloc, CopyKind::Get);
+    let mut pages = Pages::new(rt, alloc, 16);
+    let mut id = 0;
+    let mut offset = 0;
+    for part in parts {
+        assert!(rt; id < 1_000 && offset < 1_000_000 && part.len() <= 65_536);
+        id += 1;
+        let asked = asked_to_read(channel, id);
+        let before = load_all(rt, alloc, channel, &mut pages);
+        let request = request_of(rt, alloc, &asked, offset, before.as_slice());
+        assert_eq!(rt; server.request(&request), Ok(()));
+        fill(rt, &mut server, &mut pages, part);
+        check_reply(rt, alloc, &mut server, &asked, part);
+        check_pages(rt, channel, &mut pages, before.as_slice(), part);
+        offset += part.len() as u64;
+    }
+    end(rt, alloc, &mut server, id, offset);
+}
+
+fn asked_to_read(channel: Channel, id: u32) -> Asked {
+    Asked {
+        op: READ,
+        channel: channel.number(),
+        id,
+        length: LENGTH,
+    }
+}
+
+/// With registered pages loads 16 of them, for the server to place in.
+fn load_all(
+    rt: &impl Abort,
+    alloc: Global,
+    channel: Channel,
+    pages: &mut Pages,
+) -> Vec<Descriptor> {
+    let mut loaded = Vec::new(alloc);
+    if channel == Channel::V1 {
+        for page in 0..16 {
+            let descriptor = pages.load(rt, page, &[0; 4096]);
+            loaded.push(descriptor).expect(rt, MEMORY);
+        }
+    }
+    loaded
+}
+
+fn request_of(
+    rt: &impl Abort,
+    alloc: Global,
+    asked: &Asked,
+    offset: u64,
+    descriptors: &[Descriptor],
+) -> Message {
+    assert!(rt; descriptors.len() <= 16);
+    let request = Request {
+        op: asked.op,
+        channel: asked.channel,
+        id: asked.id,
+        offset,
+        length: asked.length,
+        descriptors: Descriptors::copy_of(alloc, descriptors).expect(rt, MEMORY),
+        inline: Message::copy_of(alloc, b"").expect(rt, MEMORY),
+    };
+    write_request(alloc, &request).expect(rt, MEMORY)
+}
+
+/// The bytes are wanted once and handed in, and the jobs done.
+fn fill(rt: &impl Abort, server: &mut Serving, pages: &mut Pages, part: &[u8]) {
+    assert_eq!(rt; server.wants_source(), Some(LENGTH));
+    assert!(rt; server.next_message(rt).is_none());
+    server.source(rt, part);
+    assert_eq!(rt; server.wants_source(), None);
+    for _job in 0..16 {
+        let _ = server.work(rt, pages);
+    }
+    assert!(rt; !server.work(rt, pages));
+}
+
+/// The reply counts the bytes, and carries them without registered pages.
+fn check_reply(rt: &impl Abort, alloc: Global, server: &mut Serving, asked: &Asked, part: &[u8]) {
+    let Some(message) = server.next_message(rt) else {
+        panic!(rt; "no reply")
+    };
+    let reply = read_reply(alloc, message.bytes(), asked).expect(rt, "a reply");
+    assert_eq!(rt; reply.status, 0);
+    assert_eq!(rt; reply.count as usize, part.len());
+    let carried = if asked.channel == 0 { part } else { b"" };
+    assert!(rt; reply.inline.bytes() == carried);
+    assert!(rt; server.next_message(rt).is_none());
+    assert!(rt; server.stored().is_none());
+}
+
+/// The pages hold the part and zeros after it; they are unloaded.
+fn check_pages(
+    rt: &impl Abort,
+    channel: Channel,
+    pages: &mut Pages,
+    loaded: &[Descriptor],
+    part: &[u8],
+) {
+    let mut left = part;
+    for descriptor in loaded {
+        let Some(token) = Token::from_number(descriptor.token) else {
+            panic!(rt; "no token")
+        };
+        let bytes = pages.unload(rt, token);
+        let (here, later) = left.split_at(left.len().min(4_096));
+        left = later;
+        assert!(rt; bytes.bytes().starts_with(here));
+        for byte in bytes.bytes().iter().skip(here.len()) {
+            assert!(rt; *byte == 0);
+        }
+    }
+    assert!(rt; channel == Channel::None || left.is_empty());
+}
+
+/// END is answered, and nothing is accepted after it.
+fn end(rt: &impl Abort, alloc: Global, server: &mut Serving, reads: u32, offset: u64) {
+    assert!(rt; reads < 1_000);
+    let asked = Asked {
+        op: END,
+        channel: 0,
+        id: reads + 1,
+        length: 0,
+    };
+    let header = request_header(&asked, offset, 0);
+    let request = Message::copy_of(alloc, &header).expect(rt, MEMORY);
+    assert_eq!(rt; server.request(&request), Ok(()));
+    check_reply(rt, alloc, server, &asked, b"");
+    let again = request_of(
+        rt,
+        alloc,
+        &asked_to_read(Channel::None, reads + 2),
+        offset,
+        &[],
+    );
+    assert_eq!(rt; server.request(&again), Err(FileFault::Order));
+}
