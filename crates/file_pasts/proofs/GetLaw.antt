@@ -1,5 +1,5 @@
 -- A get asks for the READs of its bytes, in order, and END after them.
-use Rattle.std.proofs.Common.{◌≡◌, ◌⊎◌, inl, inr, ℕ, zero, suc, ◌+◌, ◌-◌, ◌*◌, ◌/◌, ◌^◌, ◌<◌, ◌≤◌, ◌==◌, nat_lt, nat_le, not, ◌&&◌, ◌||◌, Bool, true, false, cond, is_some, Option, Some, None, option_map, Result, Ok, Err, List, [], ◌∷◌, ◌++◌, length, take, drop, refl, sym, ap, ◌∙◌, subst, add-one, length-append, lit<, arith}
+use Rattle.std.proofs.Common.{◌≡◌, ◌⊎◌, inl, inr, ℕ, zero, suc, ◌+◌, ◌-◌, ◌*◌, ◌/◌, ◌^◌, ◌<◌, ◌≤◌, ◌==◌, nat_lt, nat_le, not, ◌&&◌, ◌||◌, Bool, true, false, cond, is_some, Option, Some, None, option_map, Result, Ok, Err, List, [], ◌∷◌, ◌++◌, length, take, drop, map, refl, sym, ap, ◌∙◌, subst, add-one, length-append, lit<, arith}
 use Rattle.std.specs.Prelude.{slice_get}
 use Rattle.std.proofs.lemmas.Bool.Decides.{nat_tests}
 use Rattle.std.proofs.lemmas.List.{length-drop, drop-append-le}
@@ -18,6 +18,7 @@ use Rattle.file_messages.proofs.WrittenMessages.{replies_read}
 use Rattle.file_pasts.specs.ClientPast.{ClientEvent, Group, End, Sent, Replied, Gave, Completed, Received, requests_sent, Answers, fault_for, lasting_or, reply_fault, replied, answers, has_failed, are_answered}
 use Rattle.file_pasts.specs.GetDue.{counts_taken, sum_of, sent, last_count, goes_on, has_ended, is_between_rounds, descriptors_loaded, read_request, read_due, next_request, IsGet}
 use Rattle.file_pasts.specs.PutTokens.{HasPoolTokens}
+use Rattle.file_pasts.specs.ServerDue.{counted, has_ended as has_ended_among}
 use Rattle.file_pasts.specs.GetLaws.{replies_in, IsAnswered, GetsAsk, RegisteredGetsAsk}
 use Rattle.file_pasts.proofs.Lists.{within, take_one_more, front_of, prefix_before, last_mapped, got_of_map, left_at, length_front, front_whole}
 use Rattle.file_pasts.proofs.GetTokens.{read_named}
@@ -441,3 +442,70 @@ gets_ask bytes past few p r =
 pub registered_gets_ask : RegisteredGetsAsk
 registered_gets_ask bytes past few p k r =
     front_of (sent past) (requests_sent past) (get_requests channels.V1 bytes) (gets channels.V1 bytes past few p (registered-named past p k) r).front
+
+-- ---- what the server of a get has to see in the next request
+
+front_reads : (channel : Channel) (m k n : ℕ) (tail : List Request) → n ≤ m → take n (reads_from channel m k ++ tail) ≡ reads_from channel n k
+front_reads channel m k zero tail h = refl
+front_reads channel zero k (suc n) tail h = absurd (omega arith)
+front_reads channel (suc m) k (suc n) tail h = ap (λ (t : List Request). read_of channel k ∷ t) (front_reads channel m (k + 1) n tail (omega arith))
+
+take_mapped : (bytes : List ℕ) (n : ℕ) (rs : List Request) → take n (map (reply_to bytes) rs) ≡ map (reply_to bytes) (take n rs)
+take_mapped bytes zero rs = refl
+take_mapped bytes (suc n) [] = refl
+take_mapped bytes (suc n) (r ∷ rs) = ap (λ (t : List Reply). reply_to bytes r ∷ t) (take_mapped bytes n rs)
+
+counted_reads : (channel : Channel) (bytes : List ℕ) (k n : ℕ) → counted (map (reply_to bytes) (reads_from channel n k)) ≡ sum_of (counts_to bytes k n)
+unfolding counts_to got
+counted_reads channel bytes k zero = refl
+counted_reads channels.None bytes k (suc n) = ap (λ (x : ℕ). length (take 65536 (drop (65536 * (k - 1)) bytes)) + x) (counted_reads channels.None bytes (k + 1) n)
+counted_reads channels.V1 bytes k (suc n) = ap (λ (x : ℕ). length (take 65536 (drop (65536 * (k - 1)) bytes)) + x) (counted_reads channels.V1 bytes (k + 1) n)
+
+unended_reads : (channel : Channel) (n k : ℕ) → has_ended_among (reads_from channel n k) ≡ false
+unended_reads channel zero k = refl
+unended_reads channels.None (suc n) k = unended_reads channels.None n (k + 1)
+unended_reads channels.V1 (suc n) k = unended_reads channels.V1 n (k + 1)
+
+-- its number and offset, by the replies before it
+pub record IsNextOfGet (channel : Channel) (bytes : List ℕ) (n : ℕ) (r : Request) : Type 0 where
+  pub id_is : r.id ≡ n + 1
+  pub unended : has_ended_among (take n (get_requests channel bytes)) ≡ false
+  pub reads : (r.op == 1) ≡ false
+  pub offset_is : r.offset ≡ counted (take n (replies_to bytes (get_requests channel bytes)))
+
+pub next_of_get : (channel : Channel) (bytes : List ℕ) (n : ℕ) (r : Request) → RunCase channel bytes n r → IsNextOfGet channel bytes n r
+unfolding RunCase
+next_of_get channel bytes n r (inl x) =
+    let less : n < reads_count bytes = x.0 in
+    let front : take n (get_requests channel bytes) ≡ reads_from channel n 1 = front_reads channel (reads_count bytes) 1 n (end_request (reads_count bytes + 1) (length bytes) ∷ []) (omega arith) in
+    let so_far = whole-so-far bytes n (omega (arith, less)) in
+    record {
+      id_is = ap (λ (q : Request). q.id) x.1 ∙ by_channel channel;
+      unended = ap has_ended_among front ∙ unended_reads channel n 1;
+      reads = ap (λ (q : Request). q.op == 1) x.1 ∙ no_write channel;
+      offset_is = ap (λ (q : Request). q.offset) x.1 ∙ at channel ∙ sym so_far.0 ∙ sym (counted_reads channel bytes 1 n)
+          ∙ ap (λ (rs : List Request). counted (map (reply_to bytes) rs)) (sym front) ∙ ap counted (sym (take_mapped bytes n (get_requests channel bytes)));
+    }
+  where
+    by_channel : (c : Channel) → (read_of c (n + 1)).id ≡ n + 1
+    by_channel channels.None = refl
+    by_channel channels.V1 = refl
+
+    no_write : (c : Channel) → ((read_of c (n + 1)).op == 1) ≡ false
+    no_write channels.None = refl
+    no_write channels.V1 = refl
+
+    at : (c : Channel) → (read_of c (n + 1)).offset ≡ 65536 * n
+    at channels.None = (let z : 65536 * (n + 1 - 1) ≡ 65536 * n = omega arith in z)
+    at channels.V1 = (let z : 65536 * (n + 1 - 1) ≡ 65536 * n = omega arith in z)
+next_of_get channel bytes n r (inr x) =
+    let same : n ≡ reads_count bytes = x.0 in
+    let front : take n (get_requests channel bytes) ≡ reads_from channel n 1 = front_reads channel (reads_count bytes) 1 n (end_request (reads_count bytes + 1) (length bytes) ∷ []) (omega (arith, same)) in
+    let all = all-counted bytes in
+    record {
+      id_is = ap (λ (q : Request). q.id) x.1 ∙ ap (λ (k : ℕ). k + 1) (sym same);
+      unended = ap has_ended_among front ∙ unended_reads channel n 1;
+      reads = ap (λ (q : Request). q.op == 1) x.1;
+      offset_is = ap (λ (q : Request). q.offset) x.1 ∙ sym all.0 ∙ ap (λ (k : ℕ). sum_of (counts_to bytes 1 k)) (sym same) ∙ sym (counted_reads channel bytes 1 n)
+          ∙ ap (λ (rs : List Request). counted (map (reply_to bytes) rs)) (sym front) ∙ ap counted (sym (take_mapped bytes n (get_requests channel bytes)));
+    }

@@ -13,5 +13,6 @@ pub mod ServerJobs
 pub mod ServerGroups
 pub mod GetTokens
 pub mod GetLaw
+pub mod ServerAccepts
 pub mod GetPages
 pub mod GetGroups

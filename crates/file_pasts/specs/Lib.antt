@@ -8,6 +8,7 @@ pub mod PutLaws
 pub mod PutTokens
 pub mod PutPages
 pub mod ServerLaws
+pub mod ServerAccepts
 pub mod GetLaws
 pub mod WorkedPuts
 pub mod WorkedPages

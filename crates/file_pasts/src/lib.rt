@@ -16,5 +16,7 @@ pub use put_laws::{
     loads_carry_their_parts, pages_go_in_step, puts_ask_for_their_bytes, unloads_follow_replies,
     writes_name_loaded_parts,
 };
-pub use server_laws::{servers_fetch_what_is_named, servers_reply, servers_store_what_was_written};
+pub use server_laws::{
+    servers_accept, servers_fetch_what_is_named, servers_reply, servers_store_what_was_written,
+};
 pub use worked::{worked_gets, worked_groups, worked_pages, worked_puts, worked_servers};
