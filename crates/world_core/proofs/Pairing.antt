@@ -14,7 +14,7 @@ use Rattle.joint_laws.specs.Growth.{IsNextFrame, MayAdd}
 use Rattle.joint_laws.proofs.Growing.{IsBeside, grown}
 use Rattle.world_core.specs.declared.choice.Choice.{Choice}
 use Rattle.world_core.specs.declared.choice.Choice.TheVariants as choices
-use Rattle.world_core.specs.Linked.{Linked, turn, arrival, event_of_choice, event_at, still_arriving, frames_in, own_after, peer_after, TakesNext}
+use Rattle.world_core.specs.Linked.{Linked, driven, arrival, event_of_choice, event_at, still_arriving, frames_in, own_after, peer_after, TakesNext}
 use Rattle.smbd_laws.proofs.Accepting.{accepted_legal}
 
 -- an end with its peer, and the frames in flight to each
@@ -51,7 +51,7 @@ submission_adds own peer message None event is e =
 submission_adds own peer message (Some fault) event is e = absurd cc
 
 turn_adds : (own peer : Linked) (link_cut : Bool) (next : Next) (event : Event) → IsPair own peer → is_cut own.past ≡ false
-    → next_event own.side own.limits own.past ≡ next → turn link_cut next ≡ Some event → MayAdd own.side own.limits event own.past peer.past
+    → next_event own.side own.limits own.past ≡ next → driven link_cut next ≡ Some event → MayAdd own.side own.limits event own.past peer.past
 turn_adds own peer link_cut (due.Post n) event h uncut is e =
     let same : Post n ≡ event = cc in
     subst (λ (x : Event). MayAdd own.side own.limits x own.past peer.past) same (is, tt)

@@ -24,11 +24,11 @@ abbrev pub submission : Linked → List ℕ → Option Event
 submission own message = if is_none (submit_fault own.side own.limits own.past message) then Some (Submit message) else None
 
 -- What comes next at the end. A frame can't be sent on a link that is cut: the end finds that out, and is cut.
-abbrev pub turn : Bool → Next → Option Event
-turn link_cut (due.Post n) = Some (Post n)
-turn link_cut (due.Emit frame) = if link_cut then Some Cut else Some (Emit frame)
-turn link_cut due.Close = Some Cut
-turn link_cut due.Idle = None
+abbrev pub driven : Bool → Next → Option Event
+driven link_cut (due.Post n) = Some (Post n)
+driven link_cut (due.Emit frame) = if link_cut then Some Cut else Some (Emit frame)
+driven link_cut due.Close = Some Cut
+driven link_cut due.Idle = None
 
 -- the oldest frame in flight is taken, where there is one
 abbrev pub arrival : List (List ℕ) → Option Event
@@ -36,14 +36,14 @@ arrival [] = None
 arrival (frame ∷ later) = Some (Take frame)
 
 -- An end that may take a frame takes the oldest one, or finds out that the link is cut, and is cut.
-abbrev pub delivery : Bool → Linked → Option Event
-delivery link_cut own = if is_ready own.side own.limits own.past then (if link_cut then Some Cut else arrival own.arriving) else None
+abbrev pub carried : Bool → Linked → Option Event
+carried link_cut own = if is_ready own.side own.limits own.past then (if link_cut then Some Cut else arrival own.arriving) else None
 
 -- the event that a choice adds to an end that is not cut
 abbrev pub event_of_choice : Linked → Bool → Choice → Option Event
 event_of_choice own link_cut (choices.Submit end message) = submission own message
-event_of_choice own link_cut (choices.Drive end) = turn link_cut (next_event own.side own.limits own.past)
-event_of_choice own link_cut (choices.Carry end) = delivery link_cut own
+event_of_choice own link_cut (choices.Drive end) = driven link_cut (next_event own.side own.limits own.past)
+event_of_choice own link_cut (choices.Carry end) = carried link_cut own
 event_of_choice own link_cut (choices.Cut end) = Some Cut
 
 -- nothing is added to an end that is cut

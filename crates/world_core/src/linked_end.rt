@@ -8,7 +8,7 @@ ghost use Rattle.smbd_base.specs.Limits.{IsLawful};
 ghost use Rattle.world_core.specs.Choices.{answer_of};
 ghost use Rattle.world_core.specs.Kept.{newest_in};
 ghost use Rattle.world_core.specs.Newest.{newest_brought};
-ghost use Rattle.world_core.specs.Linked.{Linked, submission, turn, delivery, event_at, own_after, peer_after, TakesNext};
+ghost use Rattle.world_core.specs.Linked.{Linked, submission, driven, carried, event_at, own_after, peer_after, TakesNext};
 
 use crate::choice::{Choice, Step};
 use connection_core::{End, SubmitRefused, TakeRefused};
@@ -91,9 +91,9 @@ impl LinkedEnd {
     /// Does what comes next. A frame is sent to the peer; where the link is cut, the end is cut instead.
     pub fn drive(&mut self, peer: &mut LinkedEnd, link_cut: bool) -> Result<Step, NoMemory>
         requires { spec.is_cut self.old.past ≡ false }
-        ensures answer { IfOk result (λ s. s ≡ answer_of (turn link_cut (spec.next_event self.old.side self.old.limits self.old.past))) }
-        ensures added { OnOk result (self.new ≡ own_after self.old (turn link_cut (spec.next_event self.old.side self.old.limits self.old.past))) }
-        ensures sent { OnOk result (peer.new ≡ peer_after peer.old (turn link_cut (spec.next_event self.old.side self.old.limits self.old.past))) }
+        ensures answer { IfOk result (λ s. s ≡ answer_of (driven link_cut (spec.next_event self.old.side self.old.limits self.old.past))) }
+        ensures added { OnOk result (self.new ≡ own_after self.old (driven link_cut (spec.next_event self.old.side self.old.limits self.old.past))) }
+        ensures sent { OnOk result (peer.new ≡ peer_after peer.old (driven link_cut (spec.next_event self.old.side self.old.limits self.old.past))) }
         ensures same { OnErr result (self.new ≡ self.old) }
         ensures peer_same { OnErr result (peer.new ≡ peer.old) }
     {
@@ -126,8 +126,8 @@ impl LinkedEnd {
     pub fn carry(&mut self, link_cut: bool) -> Result<Step, NoMemory>
         requires open { spec.is_cut self.old.past ≡ false }
         requires next { TakesNext self.old }
-        ensures answer { IfOk result (λ s. s ≡ answer_of (delivery link_cut self.old)) }
-        ensures added { OnOk result (self.new ≡ own_after self.old (delivery link_cut self.old)) }
+        ensures answer { IfOk result (λ s. s ≡ answer_of (carried link_cut self.old)) }
+        ensures added { OnOk result (self.new ≡ own_after self.old (carried link_cut self.old)) }
         ensures same { OnErr result (self.new ≡ self.old) }
     {
         if !self.end.ready() {
