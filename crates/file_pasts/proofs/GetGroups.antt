@@ -8,13 +8,15 @@ use Rattle.file_messages.specs.declared.fault.ReplyFault.{ReplyFault}
 use Rattle.file_messages.specs.declared.message.Request.{Request}
 use Rattle.file_messages.specs.declared.job.Job.{Job}
 use Rattle.file_messages.specs.declared.job.Work.{Work}
+use Rattle.smbd_base.specs.Fields.{u32_at}
 use Rattle.file_messages.specs.Messages.{reply_bytes}
-use Rattle.file_messages.specs.Runs.{parts_from, groups_of, get_requests, reply_to, replies_to}
+use Rattle.file_messages.specs.Written.{IsCopyable}
+use Rattle.file_messages.specs.Runs.{end_request, reads_count, parts_from, groups_of, get_requests, reply_to, replies_to}
 use Rattle.file_pasts.specs.ClientPast.{ClientEvent, Group, End, Sent, Replied, Gave, Completed, Received, lasting_or, fault_for, reply_fault, replied, answers, has_failed, jobs_given, open_jobs, job_at, without_job}
-use Rattle.file_pasts.specs.GetDue.{some_bytes, groups_came, groups_received, next_group, IsGet}
+use Rattle.file_pasts.specs.GetDue.{some_bytes, bytes_carried, groups_came, groups_received, next_group, IsGet}
 use Rattle.file_pasts.specs.GetLaws.{replies_in, IsAnswered, groups_taken, GetsReceive}
 use Rattle.file_pasts.proofs.Lists.{take_one_more, get_in_front, front_of, prefix_before, last_mapped, got_of_map}
-use Rattle.file_pasts.proofs.GetLaw.{RunCase, run_case}
+use Rattle.file_pasts.proofs.GetLaw.{RunCase, run_case, told-length}
 
 -- what the first n READs bring, the k-th the bytes from its place on
 brought : List ℕ → ℕ → ℕ → List (List ℕ)
@@ -57,15 +59,27 @@ front-of-parts bytes k (suc n) (suc m) e =
           ∙ ap (λ (t : List (List ℕ)). take 65536 (drop (65536 * k) bytes) ∷ t) (later.1 ∙ ap (parts_from m 65536) (sym next)),
     )
 
+taken_all : (n : ℕ) (xs : List ℕ) → n ≡ length xs → take n xs ≡ xs
+taken_all zero [] h = refl
+taken_all zero (x ∷ xs) h = absurd (omega arith)
+taken_all (suc n) [] h = refl
+taken_all (suc n) (x ∷ xs) h = ap (λ (t : List ℕ). x ∷ t) (taken_all n xs (omega arith))
+
 -- what a reply to a request of the run carries
-carried : (bytes : List ℕ) (j : ℕ) (q : Request) → RunCase channels.None bytes j q
-    → some_bytes (drop 12 (reply_bytes (reply_to bytes q))) ≡ some_bytes (take 65536 (drop (65536 * j) bytes))
+carried : (bytes : List ℕ) (j : ℕ) (q : Request) → IsCopyable bytes → RunCase channels.None bytes j q
+    → some_bytes (bytes_carried (reply_bytes (reply_to bytes q))) ≡ some_bytes (take 65536 (drop (65536 * j) bytes))
 unfolding RunCase
-carried bytes j q (inl x) =
-    ap (λ (r : Request). some_bytes (drop 12 (reply_bytes (reply_to bytes r)))) x.1
-    ∙ ap (λ (k : ℕ). some_bytes (take 65536 (drop (65536 * k) bytes))) (let z : j + 1 - 1 ≡ j = omega arith in z)
-carried bytes j q (inr x) =
-    ap (λ (r : Request). some_bytes (drop 12 (reply_bytes (reply_to bytes r)))) x.1
+carried bytes j q few (inl x) =
+    let read : List ℕ = take 65536 (drop (65536 * j) bytes) in
+    let inline : drop 12 (reply_bytes (reply_to bytes q)) ≡ read =
+    ap (λ (r : Request). drop 12 (reply_bytes (reply_to bytes r))) x.1
+    ∙ ap (λ (k : ℕ). take 65536 (drop (65536 * k) bytes)) (let z : j + 1 - 1 ≡ j = omega arith in z) in
+    ap (λ (n : ℕ). some_bytes (take n (drop 12 (reply_bytes (reply_to bytes q))))) (told-length channels.None bytes j q few x.0 (inl x))
+    ∙ ap (λ (t : List ℕ). some_bytes (take (length read) t)) inline ∙ ap some_bytes (taken_all (length read) read refl)
+carried bytes j q few (inr x) =
+    let last : Request = end_request (reads_count bytes + 1) (length bytes) in
+    ap (λ (r : Request). some_bytes (bytes_carried (reply_bytes (reply_to bytes r)))) x.1
+    ∙ ap some_bytes (taken_nothing (u32_at 8 (reply_bytes (reply_to bytes last))) [] refl)
     ∙ sym (ap some_bytes (taken_nothing 65536 (drop (65536 * j) bytes) (omega (arith, length-drop (65536 * j) bytes, (let y = x.0 in y)))))
 
 record Came (bytes : List ℕ) (past : List ClientEvent) : Type 0 where
@@ -73,11 +87,11 @@ record Came (bytes : List ℕ) (past : List ClientEvent) : Type 0 where
   came : groups_came channels.None past ≡ brought bytes 0 count
   all : (answers past).fault ≡ None → count ≡ length (replies_in past)
 
-came_replied : (bytes : List ℕ) (m : List ℕ) (past : List ClientEvent) (q : Request) → Came bytes past → slice_get (get_requests channels.None bytes) (length (replies_in past)) ≡ Some q
+came_replied : (bytes : List ℕ) (m : List ℕ) (past : List ClientEvent) (q : Request) → IsCopyable bytes → Came bytes past → slice_get (get_requests channels.None bytes) (length (replies_in past)) ≡ Some q
     → m ≡ reply_bytes (reply_to bytes q) → Came bytes (Replied m ∷ past)
-came_replied bytes m past q c at is = by_fault (reply_fault (answers past) m) refl where
+came_replied bytes m past q few c at is = by_fault (reply_fault (answers past) m) refl where
   added : Option ReplyFault → List (List ℕ)
-  added o = elim o [ None ↦ some_bytes (drop 12 m) | Some fault ↦ [] ]
+  added o = elim o [ None ↦ some_bytes (bytes_carried m) | Some fault ↦ [] ]
 
   fault_before : (fault found : Option ReplyFault) → lasting_or fault found ≡ None → fault ≡ None
   fault_before None found e = refl
@@ -86,7 +100,7 @@ came_replied bytes m past q c at is = by_fault (reply_fault (answers past) m) re
   by_fault : (o : Option ReplyFault) → reply_fault (answers past) m ≡ o → Came bytes (Replied m ∷ past)
   by_fault (Some f) e = record {
     count = c.count;
-    came = ap (λ (o : Option ReplyFault). groups_came channels.None past ++ (elim o [ None ↦ some_bytes (drop 12 m) | Some fault ↦ [] ])) e ∙ append-nil (groups_came channels.None past) ∙ c.came;
+    came = ap (λ (o : Option ReplyFault). groups_came channels.None past ++ (elim o [ None ↦ some_bytes (bytes_carried m) | Some fault ↦ [] ])) e ∙ append-nil (groups_came channels.None past) ∙ c.came;
     all = λ h. absurd (never (sym (ap (λ (o : Option ReplyFault). (replied o (answers past)).fault) e) ∙ h));
   } where
     never : Some f ≡ None → ⊥
@@ -96,9 +110,9 @@ came_replied bytes m past q c at is = by_fault (reply_fault (answers past) m) re
       let n_is : c.count ≡ j = c.all (fault_before (answers past).fault (fault_for (answers past).unanswered m) e) in
       record {
         count = suc j;
-        came = ap (λ (o : Option ReplyFault). groups_came channels.None past ++ (elim o [ None ↦ some_bytes (drop 12 m) | Some fault ↦ [] ])) e
-            ∙ ap (λ (t : List (List ℕ)). t ++ some_bytes (drop 12 m)) (c.came ∙ ap (brought bytes 0) n_is)
-            ∙ ap (λ (t : List (List ℕ)). brought bytes 0 j ++ t) (ap (λ (x : List ℕ). some_bytes (drop 12 x)) is ∙ carried bytes j q (run_case channels.None bytes j q at)
+        came = ap (λ (o : Option ReplyFault). groups_came channels.None past ++ (elim o [ None ↦ some_bytes (bytes_carried m) | Some fault ↦ [] ])) e
+            ∙ ap (λ (t : List (List ℕ)). t ++ some_bytes (bytes_carried m)) (c.came ∙ ap (brought bytes 0) n_is)
+            ∙ ap (λ (t : List (List ℕ)). brought bytes 0 j ++ t) (ap (λ (x : List ℕ). some_bytes (bytes_carried x)) is ∙ carried bytes j q few (run_case channels.None bytes j q at)
             ∙ ap (λ (x : ℕ). some_bytes (take 65536 (drop (65536 * x) bytes))) (let z : j ≡ 0 + j = omega arith in z))
             ∙ brought-more bytes 0 j;
         all = λ h. sym (length-append (replies_in past) (m ∷ []) ∙ add-one j);
@@ -118,22 +132,22 @@ no_jobs (Gave work ∷ past) p = absurd (none (has_failed past) p.0) where
 no_jobs (Completed d ∷ past) p = ap (without_job d.number) (no_jobs past p.1)
 no_jobs (Received b ∷ past) p = no_jobs past p.1
 
-came : (bytes : List ℕ) (past : List ClientEvent) → IsGet channels.None past → IsAnswered channels.None bytes past → Came bytes past
+came : (bytes : List ℕ) (past : List ClientEvent) → IsCopyable bytes → IsGet channels.None past → IsAnswered channels.None bytes past → Came bytes past
 unfolding brought
-came bytes [] p r = record { count = 0; came = refl; all = λ h. refl }
-came bytes (Group b ∷ past) p r = absurd p.0
-came bytes (End ∷ past) p r = absurd p.0
-came bytes (Sent q ∷ past) p r = let c = came bytes past p.1 r in record { count = c.count; came = c.came; all = c.all }
-came bytes (Replied m ∷ past) p r =
+came bytes [] few p r = record { count = 0; came = refl; all = λ h. refl }
+came bytes (Group b ∷ past) few p r = absurd p.0
+came bytes (End ∷ past) few p r = absurd p.0
+came bytes (Sent q ∷ past) few p r = let c = came bytes past few p.1 r in record { count = c.count; came = c.came; all = c.all }
+came bytes (Replied m ∷ past) few p r =
     let one = last_mapped reply_bytes (replies_in past) m (replies_to bytes (get_requests channels.None bytes)) r in
     let q = got_of_map (reply_to bytes) (get_requests channels.None bytes) (length (replies_in past)) one.0 one.1 in
-    came_replied bytes m past q.0 (came bytes past p.1 (prefix_before (replies_in past) m _ r)) q.1 (one.2 ∙ ap reply_bytes q.2)
-came bytes (Gave work ∷ past) p r = let c = came bytes past p.1 r in record { count = c.count; came = c.came; all = c.all }
-came bytes (Completed d ∷ past) p r = absurd (unanswerable (open_jobs past) (no_jobs past p.1) p.0.work p.0.is_open) where
+    came_replied bytes m past q.0 few (came bytes past few p.1 (prefix_before (replies_in past) m _ r)) q.1 (one.2 ∙ ap reply_bytes q.2)
+came bytes (Gave work ∷ past) few p r = let c = came bytes past few p.1 r in record { count = c.count; came = c.came; all = c.all }
+came bytes (Completed d ∷ past) few p r = absurd (unanswerable (open_jobs past) (no_jobs past p.1) p.0.work p.0.is_open) where
   unanswerable : (jobs : List Job) → jobs ≡ [] → (work : Work) → job_at d.number jobs ≡ Some work → ⊥
   unanswerable [] e work h = cc
   unanswerable (x ∷ xs) e work h = cc
-came bytes (Received b ∷ past) p r = let c = came bytes past p.1 r in record { count = c.count; came = c.came; all = c.all }
+came bytes (Received b ∷ past) few p r = let c = came bytes past few p.1 r in record { count = c.count; came = c.came; all = c.all }
 
 -- ---- what was given
 
@@ -147,17 +161,17 @@ given_group past b e = by_failed (has_failed past) e where
   by_failed true h = absurd (let x : ⊥ = cc in x)
   by_failed false h = h
 
-takes : (bytes : List ℕ) (past : List ClientEvent) → IsGet channels.None past → IsAnswered channels.None bytes past → Taken past (groups_of bytes)
-takes bytes [] p r = record { taken = refl; received = refl }
-takes bytes (Group b ∷ past) p r = absurd p.0
-takes bytes (End ∷ past) p r = absurd p.0
-takes bytes (Sent q ∷ past) p r = let t = takes bytes past p.1 r in record { taken = t.taken; received = t.received }
-takes bytes (Replied m ∷ past) p r = let t = takes bytes past p.1 (prefix_before (replies_in past) m _ r) in record { taken = t.taken; received = t.received }
-takes bytes (Gave work ∷ past) p r = let t = takes bytes past p.1 r in record { taken = t.taken; received = t.received }
-takes bytes (Completed d ∷ past) p r = let t = takes bytes past p.1 r in record { taken = t.taken; received = t.received }
-takes bytes (Received b ∷ past) p r =
-    let t = takes bytes past p.1 r in
-    let c = came bytes past p.1 r in
+takes : (bytes : List ℕ) (past : List ClientEvent) → IsCopyable bytes → IsGet channels.None past → IsAnswered channels.None bytes past → Taken past (groups_of bytes)
+takes bytes [] few p r = record { taken = refl; received = refl }
+takes bytes (Group b ∷ past) few p r = absurd p.0
+takes bytes (End ∷ past) few p r = absurd p.0
+takes bytes (Sent q ∷ past) few p r = let t = takes bytes past few p.1 r in record { taken = t.taken; received = t.received }
+takes bytes (Replied m ∷ past) few p r = let t = takes bytes past few p.1 (prefix_before (replies_in past) m _ r) in record { taken = t.taken; received = t.received }
+takes bytes (Gave work ∷ past) few p r = let t = takes bytes past few p.1 r in record { taken = t.taken; received = t.received }
+takes bytes (Completed d ∷ past) few p r = let t = takes bytes past few p.1 r in record { taken = t.taken; received = t.received }
+takes bytes (Received b ∷ past) few p r =
+    let t = takes bytes past few p.1 r in
+    let c = came bytes past few p.1 r in
     let front = front-of-parts bytes 0 c.count ((length bytes + 65535) / 65536) (omega arith) in
     let k : ℕ = length (groups_taken past) in
     let more : length (groups_taken past ++ b ∷ []) ≡ suc k = length-append (groups_taken past) (b ∷ []) ∙ add-one k in
@@ -170,4 +184,4 @@ takes bytes (Received b ∷ past) p r =
     }
 
 pub gets_receive : GetsReceive
-gets_receive bytes past few p r = front_of (length (groups_taken past)) (groups_taken past) (groups_of bytes) (takes bytes past p r).taken
+gets_receive bytes past few p r = front_of (length (groups_taken past)) (groups_taken past) (groups_of bytes) (takes bytes past few p r).taken

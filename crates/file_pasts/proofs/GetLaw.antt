@@ -332,6 +332,12 @@ told channel bytes j q few less (inl x) =
     by_channel channels.None = ap (λ (k : ℕ). length (take 65536 (drop (65536 * (k - 1)) bytes))) (let z : j + 1 ≡ 1 + j = omega arith in z)
     by_channel channels.V1 = ap (λ (k : ℕ). length (take 65536 (drop (65536 * (k - 1)) bytes))) (let z : j + 1 ≡ 1 + j = omega arith in z)
 
+pub told-length : (channel : Channel) (bytes : List ℕ) (j : ℕ) (q : Request) → IsCopyable bytes → j < reads_count bytes → RunCase channel bytes j q
+    → u32_at 8 (reply_bytes (reply_to bytes q)) ≡ length (take 65536 (drop (65536 * j) bytes))
+unfolding got
+told-length channel bytes j q few less run =
+    told channel bytes j q few less run ∙ ap (λ (k : ℕ). length (take 65536 (drop (65536 * k) bytes))) (let z : 1 + j - 1 ≡ j = omega arith in z)
+
 got-sent : (channel : Channel) (bytes : List ℕ) (r : Request) (past : List ClientEvent) → NamesReads channel past → Got channel bytes past → next_request channel past ≡ Some r → Got channel bytes (Sent r ∷ past)
 got-sent channel bytes r past names g e =
     let at : slice_get (get_requests channel bytes) (sent past) ≡ Some r = next_of_run channel bytes past r names g (due_is channel past r e) in

@@ -162,6 +162,10 @@ abbrev pub some_bytes : List ℕ → List (List ℕ)
 some_bytes [] = []
 some_bytes (b ∷ bytes) = (b ∷ bytes) ∷ []
 
+-- the bytes that a reply carries: as many as it counts. Whatever else stands after a header is ignored
+abbrev pub bytes_carried : List ℕ → List ℕ
+bytes_carried m = take (u32_at 8 m) (drop 12 m)
+
 -- the groups that came: without registered pages in the replies; else from the pages, once they are unloaded
 abbrev pub groups_came : Channel → List ClientEvent → List (List ℕ)
 groups_came channel [] = []
@@ -170,7 +174,7 @@ groups_came channel (End ∷ past) = groups_came channel past
 groups_came channel (Sent r ∷ past) = groups_came channel past
 groups_came channel (Replied m ∷ past) =
     groups_came channel past ++ (elim channel [
-      | channels.None ↦ elim (reply_fault (answers past) m) [ None ↦ some_bytes (drop 12 m) | Some fault ↦ [] ]
+      | channels.None ↦ elim (reply_fault (answers past) m) [ None ↦ some_bytes (bytes_carried m) | Some fault ↦ [] ]
       | channels.V1 ↦ []
     ])
 groups_came channel (Gave work ∷ past) = groups_came channel past

@@ -33,6 +33,8 @@ pub record GetsSo : Type 0 where
   pub ends_once : next_request channels.None ended_abc ≡ None
   pub unfinished : is_finished ended_abc ≡ false
   pub finished : is_finished (Replied end_reply_abc ∷ ended_abc) ≡ true
+  -- what stands after the header of END's reply is no group
+  pub no_bytes : next_group channels.None (Replied (end_reply_abc ++ 9 ∷ []) ∷ ended_abc) ≡ None
   -- of nothing: the READ gets no bytes, and no group comes
   pub nothing : next_group channels.None (Replied (reply_bytes (success (read_of channels.None 1) 0 [])) ∷ read_abc) ≡ None
   pub nothing_ends : next_request channels.None (Replied (reply_bytes (success (read_of channels.None 1) 0 [])) ∷ read_abc) ≡ Some (end_request 2 0)

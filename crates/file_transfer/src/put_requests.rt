@@ -8,32 +8,21 @@ ghost use Rattle.file_pasts.specs.ClientPast.{ClientEvent, Group, End, Sent, Rep
 ghost use Rattle.file_pasts.specs.PutDue.{Setup, Follows, next_request, is_finished};
 ghost use Rattle.file_transfer.specs.PutStands.{RequestsStand, AllSent, after_sending, awaited_in, awaited_by, pages_named, first_named, first_asked, goes_on, is_over_of, with_error};
 
+use crate::client_requests::{ClientRequests, Unanswered};
 use crate::loaded_page::LoadedPage;
-use crate::writing::write_end;
-use file_messages::{Asked, END, FileFault, ReplyFault, reply_fault};
-use smbd_base::{Message, NoMemory, u16_at};
+use file_messages::{END, ReplyFault};
+use smbd_base::{Message, NoMemory};
 use std::alloc::Global;
-use std::collections::VecDeque;
 
 /// The bytes of each group but the last.
 const GROUP: usize = 65_536;
 
-/// A request without a reply: what its reply has to answer, and the pages that it named.
-#[derive(Drop)]
-pub struct Unanswered {
-    pub asked: Asked,
-    pub pages: Vec<LoadedPage>,
-}
-
-/// The requests that were given, and what is known of those to come.
+/// The requests of a put that were given, and what is known of those to come.
 #[derive(Drop)]
 pub struct PutRequests {
-    unanswered: VecDeque<Unanswered>,
-    /// The requests that were given, and the bytes of the groups that they carry.
-    sent: u32,
+    asked: ClientRequests,
+    /// The bytes of the groups that they carry.
     offset: u64,
-    /// The reply that was refused.
-    fault: Option<ReplyFault>,
     ended: bool,
     /// No group was shorter than 65,536 bytes.
     whole: bool,
@@ -45,10 +34,8 @@ impl PutRequests {
         ensures { (s : Setup) → RequestsStand s [] result }
     {
         PutRequests {
-            unanswered: VecDeque::new(alloc),
-            sent: 0,
+            asked: ClientRequests::new(alloc),
             offset: 0,
-            fault: None,
             ended: false,
             whole: true,
             end_sent: false,
@@ -59,7 +46,7 @@ impl PutRequests {
     pub fn has_failed(&self) -> bool
         ensures { (s : Setup) (past : List ClientEvent) → RequestsStand s past self.now → result ≡ has_failed past }
     {
-        self.fault.is_some()
+        self.asked.has_failed()
     }
 
     /// No group was shorter than 65,536 bytes, and their end was not told.
@@ -73,7 +60,7 @@ impl PutRequests {
     pub fn unanswered(&self) -> usize
         ensures { (s : Setup) (past : List ClientEvent) → RequestsStand s past self.now → result ≡ length (answers past).unanswered }
     {
-        self.unanswered.len()
+        self.asked.unanswered()
     }
 
     /// The bytes before the next request.
@@ -85,9 +72,9 @@ impl PutRequests {
 
     /// The requests that were given.
     pub fn sent(&self) -> u32
-        ensures { result ≡ self.now.sent }
+        ensures { result ≡ self.now.asked.sent }
     {
-        self.sent
+        self.asked.sent()
     }
 
     /// A group of so many bytes was handed in.
@@ -113,31 +100,29 @@ impl PutRequests {
 
     /// Makes room for one more request.
     pub fn reserve(&mut self) -> Result<(), NoMemory>
-        ensures ok { OnOk result (deque_len self.new.unanswered < deque_capacity self.new.unanswered) }
+        ensures ok { OnOk result (deque_len self.new.asked.unanswered < deque_capacity self.new.asked.unanswered) }
         ensures same { (s : Setup) (past : List ClientEvent) → RequestsStand s past self.old → RequestsStand s past self.new }
-        ensures counts { (self.new.sent ≡ self.old.sent) × (self.new.offset ≡ self.old.offset) }
+        ensures counts { (self.new.asked.sent ≡ self.old.asked.sent) × (self.new.offset ≡ self.old.offset) }
     {
-        self.unanswered.reserve(1)?;
-        Ok(())
+        self.asked.reserve()
     }
 
     /// The request that was due is given.
     pub fn ask(&mut self, request: Unanswered)
-        requires room { deque_len self.old.unanswered < deque_capacity self.old.unanswered }
-        requires numbered { self.old.sent < 4294967295 }
+        requires room { deque_len self.old.asked.unanswered < deque_capacity self.old.asked.unanswered }
+        requires numbered { self.old.asked.sent < 4294967295 }
         requires fits { self.old.offset + request.asked.length < 2 ^ 64 }
         ensures { (s : Setup) (past : List ClientEvent) (r : Request) → RequestsStand s past self.old → next_request s past ≡ Some r
             → awaited_in request ≡ awaited_by r → RequestsStand s (Sent r ∷ past) self.new }
     {
-        self.sent += 1;
         self.offset += u64::from(request.asked.length);
         self.end_sent = request.asked.op == END;
-        self.unanswered.push_back_reserved(request);
+        self.asked.ask(request);
     }
 
     /// END, if it is due, where each group was sent.
     pub fn next_end(&mut self, alloc: Global) -> Result<Option<Message>, NoMemory>
-        requires numbered { self.old.sent < 4294967295 }
+        requires numbered { self.old.asked.sent < 4294967295 }
         requires fits { self.old.offset < 2 ^ 64 }
         ensures due { (s : Setup) (past : List ClientEvent) → RequestsStand s past self.old → AllSent past
             → IfOk result (λ m. m ≡ option_map request_bytes (next_request s past)) }
@@ -145,29 +130,19 @@ impl PutRequests {
             → OnOk result (RequestsStand s (after_sending (next_request s past) past) self.new) }
         ensures same { (s : Setup) (past : List ClientEvent) → RequestsStand s past self.old → OnErr result (RequestsStand s past self.new) }
     {
-        if self.fault.is_some() || !self.is_over() {
+        if self.asked.has_failed() || !self.is_over() {
             return Ok(None);
         }
-        let asked = Asked {
-            op: END,
-            channel: 0,
-            id: self.sent + 1,
-            length: 0,
-        };
-        let message = write_end(alloc, self.sent + 1, self.offset)?;
-        self.reserve()?;
-        self.ask(Unanswered {
-            asked,
-            pages: Vec::new(alloc),
-        });
+        let message = self.asked.ask_end(alloc, self.offset)?;
+        self.end_sent = true;
         Ok(Some(message))
     }
 
     /// The groups have ended, END was not given, and each request has its reply.
     fn is_over(&self) -> bool
-        ensures { result ≡ is_over_of self.now }
+        ensures { (s : Setup) (past : List ClientEvent) → RequestsStand s past self.now → result ≡ is_over past }
     {
-        self.ended && !self.end_sent && self.unanswered.len() == 0
+        self.ended && !self.end_sent && self.asked.unanswered() == 0
     }
 
     /// Takes a reply: the pages that the request named which it answers.
@@ -176,56 +151,14 @@ impl PutRequests {
         ensures named { (s : Setup) (past : List ClientEvent) → RequestsStand s past self.old → IfOk result (λ pages. pages_named pages ≡ first_named (answers past).unanswered) }
         ensures after { (s : Setup) (past : List ClientEvent) → RequestsStand s past self.old → RequestsStand s (Replied message.now ∷ past) self.new }
     {
-        if let Some(fault) = self.fault_of(message) {
-            self.fault = Some(fault);
-            return Err(fault);
-        }
-        let Some(answered) = self.unanswered.pop_front() else {
-            unreachable!();
-        };
-        Ok(answered.pages)
-    }
-
-    /// How a message is refused as a reply.
-    fn fault_of(&self, message: &Message) -> Option<ReplyFault>
-        ensures value { (s : Setup) (past : List ClientEvent) → RequestsStand s past self.now → result ≡ refusal_of (answers past) message.now }
-        ensures none { IsNone result → 0 < length self.now.unanswered.items }
-    {
-        if let Some(fault) = self.fault {
-            return Some(fault);
-        }
-        match self.oldest() {
-            Some(asked) => fault_in(message.bytes(), &asked),
-            None => Some(ReplyFault::File(FileFault::Order)),
-        }
-    }
-
-    /// What the next reply has to answer.
-    fn oldest(&self) -> Option<Asked>
-        ensures some { IfSome result (λ asked. first_asked self.now.unanswered.items ≡ Some asked) }
-        ensures none { IsNone result → self.now.unanswered.items ≡ [] }
-    {
-        match self.unanswered.front() {
-            Some(request) => Some(request.asked),
-            None => None,
-        }
+        self.asked.reply(message)
     }
 
     /// Whether the reply to END was taken.
     pub fn finished(&self) -> bool
         ensures { (s : Setup) (past : List ClientEvent) → RequestsStand s past self.now → result ≡ is_finished past }
     {
-        self.end_sent && self.unanswered.len() == 0
+        self.end_sent && self.asked.unanswered() == 0
     }
 }
 
-/// Why a message is no reply of success to what was asked.
-fn fault_in(bytes: &[u8], asked: &Asked) -> Option<ReplyFault>
-    ensures { result ≡ fault_of_reading (reply_of asked.now bytes.now) }
-{
-    match reply_fault(bytes, asked) {
-        Some(fault) => Some(ReplyFault::File(fault)),
-        None if u16_at(bytes, 2) != 0 => Some(ReplyFault::Status(u16_at(bytes, 2))),
-        None => None,
-    }
-}

@@ -15,6 +15,7 @@ returns-clause-inline c = record {
   ends_once = refl;
   unfinished = refl;
   finished = refl;
+  no_bytes = refl;
   nothing = refl;
   nothing_ends = refl;
 }
