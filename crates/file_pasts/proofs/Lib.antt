@@ -15,4 +15,5 @@ pub mod GetTokens
 pub mod GetLaw
 pub mod ServerAccepts
 pub mod GetPages
+pub mod GetPagesBack
 pub mod GetGroups

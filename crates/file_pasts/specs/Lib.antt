@@ -10,6 +10,7 @@ pub mod PutPages
 pub mod ServerLaws
 pub mod ServerAccepts
 pub mod GetLaws
+pub mod GetPagesBack
 pub mod WorkedPuts
 pub mod WorkedPages
 pub mod WorkedServers

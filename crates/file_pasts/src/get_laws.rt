@@ -1,6 +1,7 @@
 //! Laws of the client of a get.
 
 ghost use Rattle.file_pasts.specs.GetLaws.{GetsAsk, RegisteredGetsAsk, JobsAreOfAGet, LoadsOwnRounds, GetUnloadsFollow, GetsReceive};
+ghost use Rattle.file_pasts.specs.GetPagesBack.{JobsAreCounted, PagesComeBack};
 
 /// A get asks for its bytes in order: where the replies that were handed in are a front of those of a copy, what it sent is a
 /// front of the READs of that copy and its END. Over registered pages this holds where the pool gives each load of a page the
@@ -23,4 +24,12 @@ pub fn rounds_load_and_unload()
 /// handed in are a front of those of a copy.
 pub fn gets_receive_what_was_read()
     ensures { GetsReceive }
+{}
+
+/// Each job of a get that was given is open or was completed once. Where all are completed, the bytes that the client puts
+/// together of some jobs in a row are those of the pages whose tokens they unloaded, in order: each Unload has to bring the bytes
+/// that its token's page holds.
+pub fn pages_come_back()
+    ensures counted { JobsAreCounted }
+    ensures bytes { PagesComeBack }
 {}

@@ -11,7 +11,9 @@ mod put_laws;
 mod server_laws;
 mod worked;
 
-pub use get_laws::{gets_ask_for_their_bytes, gets_receive_what_was_read, rounds_load_and_unload};
+pub use get_laws::{
+    gets_ask_for_their_bytes, gets_receive_what_was_read, pages_come_back, rounds_load_and_unload,
+};
 pub use put_laws::{
     loads_carry_their_parts, pages_go_in_step, puts_ask_for_their_bytes, unloads_follow_replies,
     writes_name_loaded_parts,

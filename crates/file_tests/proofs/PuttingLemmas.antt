@@ -8,8 +8,7 @@ use Rattle.file_messages.specs.declared.message.Request.{Request}
 use Rattle.file_messages.specs.declared.job.Work.{Work}
 use Rattle.file_messages.specs.declared.job.WorkResult.{WorkResult}
 use Rattle.file_messages.specs.declared.job.Job.{Job}
-use Rattle.file_messages.specs.declared.job.Completion.{Completion}
-use Rattle.file_pasts.specs.ClientPast.{ClientEvent, Sent, Gave, Completed, requests_sent, jobs_given, open_jobs, job_at, without_job, has_failed, AnswersJob, IsOfKind}
+use Rattle.file_pasts.specs.ClientPast.{ClientEvent, Gave, Completed, requests_sent, jobs_given, open_jobs, job_at, without_job, has_failed, AnswersJob, IsOfKind}
 use Rattle.file_pasts.specs.PutDue.{Setup, next_job, next_request, jobs_due, numbered}
 use Rattle.file_transfer.specs.declared.put_client.PutClient.{PutClient}
 use Rattle.file_transfer.specs.ClientJobs.{after_giving}
