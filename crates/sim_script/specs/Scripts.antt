@@ -133,11 +133,6 @@ abbrev pub IsScriptFault : ScriptFault → List ℕ → Type 0
 IsScriptFault (faults.Line number) text = first_bad_line text ≡ Some number
 IsScriptFault faults.NoMemory text = (0 < length text) × (first_bad_line text ≢ Some 1)
 
--- Why the script of a text was not run: its first bad line. Want of memory comes only where no line is bad.
-abbrev pub IsRunFault : ScriptFault → List ℕ → Type 0
-IsRunFault (faults.Line number) text = first_bad_line text ≡ Some number
-IsRunFault faults.NoMemory text = first_bad_line text ≡ None
-
 -- ---- what functions answer
 
 -- an end that was read, and the parts that are left

@@ -1,14 +1,14 @@
 //! Reading a script, and running it.
 
-ghost use Rattle.std.specs.Prelude.{◌≡◌, ◌≤◌, length, None, IfOk, IfErr, OnOk};
-ghost use Rattle.world_core.specs.Run.{run_of};
+ghost use Rattle.std.specs.Prelude.{◌≡◌, ◌≤◌, fold, length, None, IfOk, IfErr, OnOk};
+ghost use Rattle.world_core.specs.Run.{step_of};
 ghost use Rattle.sim_script.specs.Scripts as spec;
 
 use crate::fault::ScriptFault;
 use crate::lines::next_line;
 use crate::reading::read_line;
 use crate::script_line::ScriptLine;
-use smbd_base::{EndLimits, Message, NoMemory};
+use smbd_base::{Message, NoMemory};
 use std::alloc::Global;
 use world_core::{Choice, World};
 
@@ -53,24 +53,13 @@ pub fn first_bad_line(text: &[u8]) -> Option<u64>
     None
 }
 
-/// The world of two ends of these limits after the script of a text, or the number, from 1, of its first line that is none.
-/// Nothing is run where a line is bad. Each choice is made when its turn comes, so that a message takes memory only once
-/// it is submitted.
-pub fn run_text(
-    alloc: Global,
-    client: EndLimits,
-    server: EndLimits,
-    text: &[u8],
-) -> Result<World, ScriptFault>
-    ensures good { IfOk result (λ world. spec.first_bad_line text.now ≡ None) }
-    ensures run { IfOk result (λ world. world ≡ run_of client server (spec.script_of text.now)) }
+/// Has a world do the choices of the lines of a text, in order; a line that is none makes no choice. Each choice is made when
+/// its turn comes, so that a message takes memory only once it is submitted. Where memory is wanting, the first of the choices
+/// are done.
+pub fn run_text(alloc: Global, world: &mut World, text: &[u8]) -> Result<(), NoMemory>
+    ensures run { OnOk result (world.new ≡ fold step_of world.old (spec.script_of text.now)) }
     ensures few { OnOk result (length (spec.script_of text.now) ≤ length text.now) }
-    ensures fault { IfErr result (λ fault. spec.IsRunFault fault text.now) }
 {
-    if let Some(line) = first_bad_line(text) {
-        return Err(ScriptFault::Line(line));
-    }
-    let mut world = World::open(alloc, client, server)?;
     let mut rest = text;
     while let Some((line, after)) = next_line(rest) {
         if let Some(said) = read_line(line) {
@@ -78,7 +67,7 @@ pub fn run_text(
         }
         rest = after;
     }
-    Ok(world)
+    Ok(())
 }
 
 /// The choice that a line makes.

@@ -11,10 +11,11 @@ use crate::input::read_input;
 use crate::options::Plain;
 use event_log::{Line, write_lines};
 use run_log::lines_of_run;
-use sim_script::{ScriptFault, run_text};
+use sim_script::run_text;
 use smbd_base::{EndLimits, NoMemory};
 use smbd_outside::{Failed, Sink, Source, Status};
 use std::alloc::Global;
+use world_core::World;
 
 /// Reads all of the input, at most 16,777,216 bytes, checks it, and then writes what it asks for: for `Sim` the log of the run
 /// of the script that the input is, line by line in the order of the events.
@@ -67,12 +68,16 @@ fn log_of_script(alloc: Global, limits: EndLimits, text: &[u8]) -> Result<Vec<Li
     ensures lines { IfOk result (λ lines. lines.items ≡ run_lines (run_of limits limits (script_of text.now))) }
     ensures stops { IfErr result (λ status. StopsScript status text.now) }
 {
+    if let Some(line) = sim_script::first_bad_line(text) {
+        return Err(Status::BadInput { line });
+    }
     // said for the contracts: limits are lawful
     let _ = limits.credits();
-    let world = match run_text(alloc, limits, limits, text) {
-        Ok(world) => world,
-        Err(ScriptFault::Line(line)) => return Err(Status::BadInput { line }),
-        Err(ScriptFault::NoMemory) => return Err(Status::NoMemory),
+    let Ok(mut world) = World::open(alloc, limits, limits) else {
+        return Err(Status::NoMemory);
+    };
+    let Ok(()) = run_text(alloc, &mut world, text) else {
+        return Err(Status::NoMemory);
     };
     match lines_of_run(alloc, &world) {
         Ok(lines) => Ok(lines),

@@ -1,12 +1,12 @@
 -- What is left to read gives the rest of the run; each line took a byte at least.
 use Rattle.std.proofs.Common.{◌≡◌, ◌+◌, ◌≤◌, fold, length}
-use Rattle.world_core.specs.Run.{run_of, step_of}
+use Rattle.world_core.specs.Run.{step_of}
 use Rattle.sim_script.specs.Scripts.{lines_in, choices_in, script_of}
 use Rattle.sim_script.proofs.script.run_text.Given as goal
 
 abbrev pub invariant-loop-line : goal.invariant-loop-line
 invariant-loop-line l = record {
-  run : fold step_of l.world (choices_in (lines_in l.rest)) ≡ run_of l.client l.server (script_of l.text);
+  run : fold step_of l.world (choices_in (lines_in l.rest)) ≡ fold step_of l.initial.world (script_of l.text);
   few : length (script_of l.text) + length l.rest ≤ length l.text + length (choices_in (lines_in l.rest));
 }
 
