@@ -23,7 +23,7 @@ loads_own_rounds page turn d past p k e = get_owned page turn d past p k e
 
 -- ---- what was given is the front of what came due
 
-next_in_rest : (xs rest : List Work) (work : Work) → slice_get (xs ++ rest) (length xs) ≡ Some work → (later : List Work) × (rest ≡ work ∷ later)
+pub next_in_rest : (xs rest : List Work) (work : Work) → slice_get (xs ++ rest) (length xs) ≡ Some work → (later : List Work) × (rest ≡ work ∷ later)
 next_in_rest [] [] work e = absurd (let b : ⊥ = cc in b)
 next_in_rest [] (x ∷ rest) work e = (rest, ap (λ (t : Work). t ∷ rest) (same x work e)) where
   same : (a b : Work) → Some a ≡ Some b → a ≡ b

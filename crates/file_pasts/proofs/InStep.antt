@@ -46,7 +46,7 @@ count_open-without f n (job ∷ later) work e = by_test (job.number == n) refl e
 
 -- ---- what comes due
 
-loads-none : (page : ℕ) (works : List Descriptor) → count (is_load_on page) (unloads_of works) ≡ 0
+pub loads-none : (page : ℕ) (works : List Descriptor) → count (is_load_on page) (unloads_of works) ≡ 0
 unfolding count is_load_on one_if
 loads-none page [] = refl
 loads-none page (d ∷ ds) = omega (arith, loads-none page ds)
@@ -132,7 +132,7 @@ loads-of-group w page first (part ∷ parts) past = by_test (first == page) refl
 
 -- ---- one completion
 
-loaded-count : (page : ℕ) (work : Work) (result : WorkResult) → IsOfKind work result → length (loaded_by page result) ≡ one_if (is_load_on page work)
+pub loaded-count : (page : ℕ) (work : Work) (result : WorkResult) → IsOfKind work result → length (loaded_by page result) ≡ one_if (is_load_on page work)
 unfolding is_load_on one_if
 loaded-count page (Load p r bytes) (Loaded d) fits = by_test ((token_in d).page == page) (p == page) (ap (λ (k : ℕ). k == page) fits.1) where
   by_test : (t u : Bool) → t ≡ u → length (cond {A = List Descriptor} t (d ∷ []) []) ≡ one_if u
@@ -498,7 +498,7 @@ in_step w page (Received bytes ∷ past) p = absurd p.0
 
 -- ---- what a completion meets
 
-counted : (f : Work → Bool) (n : ℕ) (jobs : List Job) (work : Work) → job_at n jobs ≡ Some work → f work ≡ true → 1 ≤ count_open f jobs
+pub counted : (f : Work → Bool) (n : ℕ) (jobs : List Job) (work : Work) → job_at n jobs ≡ Some work → f work ≡ true → 1 ≤ count_open f jobs
 unfolding one_if
 counted f n jobs work e h = omega (arith, count_open-without f n jobs work e, ap one_if h)
 

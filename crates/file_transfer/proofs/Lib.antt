@@ -12,6 +12,14 @@ pub mod ServerAsked
 pub mod PutClientLemmas
 pub mod PutBounds
 pub mod ClientJobsLemmas
+pub mod ClientRequestsLemmas
+pub mod GetWaits
+pub mod GetRounds
+pub mod GetClientLemmas
+pub mod GetGroupsLemmas
+pub mod GetRequestsLemmas
+pub mod GetPagesLemmas
+pub mod GetRegisteredLemmas
 pub mod PutInlineLemmas
 pub mod PutPagesLemmas
 pub mod PutRegisteredLemmas

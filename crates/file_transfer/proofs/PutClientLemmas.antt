@@ -128,10 +128,8 @@ requests-gave s past q (Some job) r e =
     let number : job.number ≡ length (jobs_given past) = job-number (has_failed past) s.channel (length (jobs_given past)) (slice_get (jobs_due s.windows past) (length (jobs_given past))) job e in
     record {
       lawful = (e ∙ ap (λ (n : ℕ). Some (record { number = n; work = job.work })) number, r.lawful);
-      unanswered = r.unanswered;
-      sent = r.sent;
+      asked = let a = r.asked in record { unanswered = a.unanswered; sent = a.sent; fault = a.fault };
       offset = r.offset;
-      fault = r.fault;
       ended = r.ended;
       whole = r.whole;
       end_sent = r.end_sent;

@@ -13,7 +13,8 @@ use Rattle.file_pasts.proofs.GroupLemmas.{next_of, none_next, total-take-short, 
 use Rattle.file_pasts.proofs.Naming.{all_short}
 use Rattle.file_transfer.specs.declared.put_inline.InlineGroups.{InlineGroups}
 use Rattle.file_transfer.specs.declared.put_requests.PutRequests.{PutRequests}
-use Rattle.file_transfer.specs.PutStands.{RequestsStand, AllSent, after_sending}
+use Rattle.file_transfer.specs.ClientStands.{after_sending}
+use Rattle.file_transfer.specs.PutStands.{RequestsStand, AllSent}
 use Rattle.file_transfer.specs.PutInlineStands.{InlineStands, without_pages}
 
 -- the id of a message has 32 bits
@@ -126,10 +127,10 @@ none_wait past m s e = by_rest (drop (length (requests_sent past)) (groups_in pa
   by_rest (g ∷ gs) p h = absurd (let b : ⊥ = cc in b)
 
 pub write-due : (w : ℕ) (past : List ClientEvent) (q : PutRequests) (message : List ℕ) (rest : List (List ℕ)) (f : IsFirstWrite past message rest) → RequestsStand (without_pages w) past q
-    → is_some q.fault ≡ false
+    → is_some q.asked.fault ≡ false
     → next_request (without_pages w) past ≡ Some (inline_write (length (requests_sent past) + 1) (total (take (length (requests_sent past)) (groups_in past))) f.group)
 write-due w past q message rest f s h =
-    let going : has_failed past ≡ false = ap is_some (sym s.fault) ∙ h in
+    let going : has_failed past ≡ false = ap is_some (sym s.asked.fault) ∙ h in
     let get : slice_get (groups_in past) (length (requests_sent past)) ≡ Some f.group = f.get in
     let less : length (requests_sent past) + 1 - 1 ≡ length (requests_sent past) = omega arith in
     rw (going, get, less) refl
@@ -194,8 +195,8 @@ pub nothing_left : {A : Type 0} (xs ys : List A) → xs ≡ ys → ys ≡ drop 1
 nothing_left [] ys e h = refl
 nothing_left (x ∷ xs) ys e h = absurd (omega (arith, ap length e, ap length h))
 
-pub going_on : (w : ℕ) (past : List ClientEvent) (q : PutRequests) → RequestsStand (without_pages w) past q → has_failed past ≡ false → is_some q.fault ≡ false
-going_on w past q s h = ap is_some s.fault ∙ h
+pub going_on : (w : ℕ) (past : List ClientEvent) (q : PutRequests) → RequestsStand (without_pages w) past q → has_failed past ≡ false → is_some q.asked.fault ≡ false
+going_on w past q s h = ap is_some s.asked.fault ∙ h
 
 -- what follows from what holds where a call went well
 pub on_ok-map : {X E A B : Type 0} (r : Result X E) → (A → B) → OnOk r A → OnOk r B

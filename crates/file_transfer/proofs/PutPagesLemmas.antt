@@ -21,7 +21,7 @@ use Rattle.file_transfer.specs.declared.loaded_page.LoadedPage.{LoadedPage}
 use Rattle.file_transfer.specs.declared.put_pages.Page.{Page}
 use Rattle.file_transfer.specs.declared.put_pages.UnderWay.{UnderWay}
 use Rattle.file_transfer.specs.ClientJobs.{JobsStand}
-use Rattle.file_transfer.specs.PutStands.{descriptor_in}
+use Rattle.file_transfer.specs.ClientStands.{descriptor_in}
 use Rattle.file_transfer.specs.PutPagesStand.{PageStands, SlotsStand, PageTakes, PartsTaken, HasRoomOn, PageNamed, SlotsNamed, all_back, is_back, under_way_of}
 
 -- ---- lists

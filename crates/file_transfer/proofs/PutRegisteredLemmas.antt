@@ -33,7 +33,8 @@ use Rattle.file_transfer.specs.declared.put_pages.UnderWay.{UnderWay}
 use Rattle.file_transfer.specs.declared.put_registered.RegisteredGroups.{RegisteredGroups}
 use Rattle.file_transfer.specs.declared.put_requests.PutRequests.{PutRequests}
 use Rattle.file_transfer.specs.ClientJobs.{JobsStand, after_giving}
-use Rattle.file_transfer.specs.PutStands.{RequestsStand, AllSent, after_sending, first_named, descriptor_in}
+use Rattle.file_transfer.specs.ClientStands.{after_sending, first_named, descriptor_in}
+use Rattle.file_transfer.specs.PutStands.{RequestsStand, AllSent}
 use Rattle.file_transfer.specs.PutPagesStand.{SlotsStand, PartsTaken, HasRoomOn, SlotsNamed, all_back, is_back, groups_from, under_way_of, named_total}
 use Rattle.file_transfer.specs.PutRegisteredStands.{RegisteredStand, JobClosed, size_of}
 use Rattle.file_transfer.proofs.PutBounds.{has_pages, not_back, parts-once, page-within, few_parts, few_groups, few_jobs, loaded-parts, wants_room}
@@ -504,7 +505,7 @@ none_wait w past g s e = by_rest (drop (length (requests_sent past)) (groups_in 
 
 pub pages-due : (w first size : ℕ) (past : List ClientEvent) (q : PutRequests) (rest : List ℕ) (n : IsNextGroup past size rest) → RequestsStand (over w) past q → has_failed past ≡ false
     → first ≡ length (requests_sent past) % w * 16
-    → next_request (over w) past ≡ option_map (registered_write (q.sent + 1) q.offset n.group) (descriptors_for first (pages_of n.group) past)
+    → next_request (over w) past ≡ option_map (registered_write (q.asked.sent + 1) q.offset n.group) (descriptors_for first (pages_of n.group) past)
 pages-due w first size past q rest n s going at =
     let get : slice_get (groups_in past) (length (requests_sent past)) ≡ Some n.group = n.get in
     let less : length (requests_sent past) + 1 - 1 ≡ length (requests_sent past) = omega arith in
@@ -515,7 +516,7 @@ pages-due w first size past q rest n s going at =
     ∙ ap (λ (k : ℕ). option_map (registered_write (length (requests_sent past) + 1) (bytes_before (length (requests_sent past) + 1) past) n.group) (descriptors_for k (pages_of n.group) past)) place
     ∙ ap (λ (k : ℕ). option_map (registered_write (length (requests_sent past) + 1) (total (take k (groups_in past))) n.group) (descriptors_for first (pages_of n.group) past)) less
     ∙ ap (λ (k : ℕ). option_map (registered_write (length (requests_sent past) + 1) k n.group) (descriptors_for first (pages_of n.group) past)) (sym s.offset)
-    ∙ ap (λ (k : ℕ). option_map (registered_write (k + 1) q.offset n.group) (descriptors_for first (pages_of n.group) past)) (sym s.sent)
+    ∙ ap (λ (k : ℕ). option_map (registered_write (k + 1) q.offset n.group) (descriptors_for first (pages_of n.group) past)) (sym s.asked.sent)
 
 pub write-bytes : (k offset : ℕ) (group : List ℕ) (ds : List Descriptor)
     → header_bytes 1 1 k offset (length group) (length ds) ++ flat_map descriptor_bytes ds ≡ request_bytes (registered_write k offset group ds)

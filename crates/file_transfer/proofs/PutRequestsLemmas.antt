@@ -1,21 +1,19 @@
 -- The requests of a put, and their replies.
-use Rattle.std.proofs.Common.{◌≡◌, inl, inr, ℕ, zero, suc, ◌+◌, ◌<◌, ◌≤◌, ◌==◌, nat_lt, not, ◌&&◌, Bool, true, false, cond, is_some, Option, Some, None, List, [], ◌∷◌, ◌++◌, length, take, drop, map, refl, sym, ap, ◌∙◌, subst, add-one, length-append, arith}
+use Rattle.std.proofs.Common.{◌≡◌, inl, inr, ℕ, zero, suc, ◌+◌, ◌<◌, ◌≤◌, ◌==◌, nat_lt, not, ◌&&◌, Bool, true, false, cond, is_some, Option, Some, None, List, [], ◌∷◌, ◌++◌, length, take, refl, sym, ap, ◌∙◌, subst, add-one, length-append, arith}
 use Rattle.std.specs.Prelude.{slice_get, option_map}
 use Rattle.std.proofs.lemmas.Bool.Decides.{nat_tests}
-use Rattle.std.proofs.lemmas.List.{take-append-le, map-append}
+use Rattle.std.proofs.lemmas.List.{take-append-le}
 use Rattle.buffer_descriptor.specs.declared.descriptor.Descriptor.{Descriptor}
 use Rattle.file_messages.specs.declared.kind.Channel.{Channel}
 use Rattle.file_messages.specs.declared.kind.Channel.TheVariants as channels
-use Rattle.file_messages.specs.declared.fault.ReplyFault.{ReplyFault}
 use Rattle.file_messages.specs.declared.message.Request.{Request}
-use Rattle.file_messages.specs.declared.message.Asked.{Asked}
 use Rattle.file_transfer.specs.declared.put_requests.PutRequests.{PutRequests}
-use Rattle.file_transfer.specs.declared.put_requests.Unanswered.{Unanswered}
-use Rattle.file_messages.specs.Messages.{asked_by, reply_of}
+use Rattle.file_transfer.specs.declared.client_requests.Unanswered.{Unanswered}
 use Rattle.file_messages.specs.Runs.{inline_write, registered_write, end_request, page_of, pages_of}
-use Rattle.file_pasts.specs.ClientPast.{ClientEvent, Group, Sent, groups_in, is_ended, requests_sent, total, fault_for, fault_of_reading, lasting_or, reply_fault, answers, has_failed, are_answered}
+use Rattle.file_pasts.specs.ClientPast.{ClientEvent, Group, Sent, groups_in, is_ended, requests_sent, total, answers, has_failed, are_answered}
 use Rattle.file_pasts.specs.PutDue.{Setup, Follows, next_request, write_due, is_finished, bytes_before, descriptors_for}
-use Rattle.file_transfer.specs.PutStands.{Awaited, awaited_in, awaited_by, first_named, first_asked, RequestsStand, AllSent, is_over_of, after_sending}
+use Rattle.file_transfer.specs.ClientStands.{Awaited, AskedStand, awaited_in, awaited_by, after_sending}
+use Rattle.file_transfer.specs.PutStands.{RequestsStand, AllSent, is_over}
 use Rattle.file_pasts.proofs.GroupLemmas.{past_end, are_whole-append, take_whole}
 use Rattle.file_pasts.proofs.PutLaw.{SentCase, sent_case, wants_parts}
 use Rattle.file_pasts.proofs.Naming.{in_turn, place_within}
@@ -24,16 +22,13 @@ use Rattle.file_pasts.proofs.Naming.{in_turn, place_within}
 
 pub stand-group : (s : Setup) (past : List ClientEvent) (m n : PutRequests) (bytes : List ℕ) → RequestsStand s past m → Follows s (Group bytes) past
     → n.whole ≡ (m.whole && length bytes == 65536)
-    → n.unanswered.items ≡ m.unanswered.items → n.sent ≡ m.sent → n.offset ≡ m.offset → n.fault ≡ m.fault → n.ended ≡ m.ended
-    → n.end_sent ≡ m.end_sent → RequestsStand s (Group bytes ∷ past) n
-stand-group s past m n bytes c f whole unanswered sent offset fault ended end_sent =
+    → n.asked ≡ m.asked → n.offset ≡ m.offset → n.ended ≡ m.ended → n.end_sent ≡ m.end_sent → RequestsStand s (Group bytes ∷ past) n
+stand-group s past m n bytes c f whole asked offset ended end_sent =
     let within : length (requests_sent past) ≤ length (groups_in past) = (in_turn s past c.lawful).1 (wants_parts s past f.0).0 in
     record {
       lawful = (f, c.lawful);
-      unanswered = ap (map awaited_in) unanswered ∙ c.unanswered;
-      sent = sent ∙ c.sent;
+      asked = subst (AskedStand (Group bytes ∷ past)) (sym asked) (let a = c.asked in record { unanswered = a.unanswered; sent = a.sent; fault = a.fault });
       offset = offset ∙ c.offset ∙ ap total (sym (take-append-le (length (requests_sent past)) (groups_in past) (bytes ∷ []) within));
-      fault = fault ∙ c.fault;
       ended = ended ∙ c.ended;
       whole = whole ∙ ap (λ (t : Bool). t && length bytes == 65536) c.whole ∙ sym (are_whole-append (groups_in past) bytes);
       end_sent = end_sent ∙ c.end_sent ∙ not_sent (length (groups_in past)) (length (groups_in past ++ bytes ∷ [])) (length (requests_sent past)) within (length-append (groups_in past) (bytes ∷ []));
@@ -114,54 +109,48 @@ counted s past r e = by_case (sent_case s past r e) where
       beyond a b h = grind (arith, nat_tests)
 
 pub stand-sent : (s : Setup) (past : List ClientEvent) (m n : PutRequests) (r : Request) (q : Unanswered) → RequestsStand s past m → next_request s past ≡ Some r
-    → awaited_in q ≡ awaited_by r → n.unanswered.items ≡ m.unanswered.items ++ q ∷ []
-    → n.sent ≡ m.sent + 1 → n.offset ≡ m.offset + q.asked.length → n.end_sent ≡ (q.asked.op == 3)
-    → n.fault ≡ m.fault → n.ended ≡ m.ended → n.whole ≡ m.whole → RequestsStand s (Sent r ∷ past) n
-stand-sent s past m n r q c due is unanswered sent offset end_sent fault ended whole =
+    → awaited_in q ≡ awaited_by r → AskedStand (Sent r ∷ past) n.asked → n.offset ≡ m.offset + q.asked.length → n.end_sent ≡ (q.asked.op == 3)
+    → n.ended ≡ m.ended → n.whole ≡ m.whole → RequestsStand s (Sent r ∷ past) n
+stand-sent s past m n r q c due is asked offset end_sent ended whole =
     let k = counted s past r due in
     record {
       lawful = (due, c.lawful);
-      unanswered = ap (map awaited_in) unanswered ∙ map-append awaited_in m.unanswered.items (q ∷ [])
-          ∙ ap (λ (xs : List Awaited). xs ++ awaited_in q ∷ []) c.unanswered ∙ ap (λ (x : Awaited). map awaited_by (answers past).unanswered ++ x ∷ []) is
-          ∙ sym (map-append awaited_by (answers past).unanswered (r ∷ []));
-      sent = sent ∙ ap (λ (x : ℕ). x + 1) c.sent ∙ sym (length-append (requests_sent past) (r ∷ []));
+      asked = asked;
       offset = offset ∙ ap (λ (x : ℕ). x + q.asked.length) c.offset
           ∙ ap (λ (x : Awaited). total (take (length (requests_sent past)) (groups_in past)) + x.asked.length) is ∙ sym k.offset;
-      fault = fault ∙ c.fault;
       ended = ended ∙ c.ended;
       whole = whole ∙ c.whole;
       end_sent = end_sent ∙ ap (λ (x : Awaited). x.asked.op == 3) is ∙ sym k.end_sent;
     }
 
+-- END was given, where it was due
+pub stand-ended : (s : Setup) (past : List ClientEvent) (m n : PutRequests) → RequestsStand s past m → next_request s past ≡ Some (end_request (m.asked.sent + 1) m.offset)
+    → AskedStand (Sent (end_request (m.asked.sent + 1) m.offset) ∷ past) n.asked → n.offset ≡ m.offset → n.end_sent ≡ true
+    → n.ended ≡ m.ended → n.whole ≡ m.whole → RequestsStand s (Sent (end_request (m.asked.sent + 1) m.offset) ∷ past) n
+stand-ended s past m n c due asked offset end_sent ended whole =
+    let r : Request = end_request (m.asked.sent + 1) m.offset in
+    let k = counted s past r due in
+    record {
+      lawful = (due, c.lawful);
+      asked = asked;
+      offset = omega (arith, offset, c.offset, k.offset);
+      ended = ended ∙ c.ended;
+      whole = whole ∙ c.whole;
+      end_sent = end_sent ∙ sym k.end_sent;
+    }
+
 -- ---- END
 
-length-awaited : (rs : List Request) → length (map awaited_by rs) ≡ length rs
-length-awaited [] = refl
-length-awaited (r ∷ rs) = omega (arith, length-awaited rs)
-
-length-unanswered : (us : List Unanswered) → length (map awaited_in us) ≡ length us
-length-unanswered [] = refl
-length-unanswered (u ∷ us) = omega (arith, length-unanswered us)
-
-pub unanswered-is : (s : Setup) (past : List ClientEvent) (m : PutRequests) → RequestsStand s past m → length m.unanswered.items ≡ length (answers past).unanswered
-unanswered-is s past m c =
-    omega (arith, length-unanswered m.unanswered.items, ap length c.unanswered, length-awaited (answers past).unanswered)
-
-answered-is : (s : Setup) (past : List ClientEvent) (m : PutRequests) → RequestsStand s past m → (length m.unanswered.items == 0) ≡ are_answered past
-answered-is s past m c = ap (λ (k : ℕ). k == 0) (unanswered-is s past m c)
-
 -- whether END is due, where each group was sent and no reply was refused
-pub end-due : (s : Setup) (past : List ClientEvent) (m : PutRequests) → RequestsStand s past m → AllSent past → is_some m.fault ≡ false
-    → next_request s past ≡ cond (is_over_of m) (Some (end_request (m.sent + 1) m.offset)) None
+pub end-due : (s : Setup) (past : List ClientEvent) (m : PutRequests) → RequestsStand s past m → AllSent past → is_some m.asked.fault ≡ false
+    → next_request s past ≡ cond (is_over past) (Some (end_request (m.asked.sent + 1) m.offset)) None
 end-due s past m c a h =
-    let going : has_failed past ≡ false = ap is_some (sym c.fault) ∙ h in
+    let going : has_failed past ≡ false = ap is_some (sym c.asked.fault) ∙ h in
     let none : slice_get (groups_in past) (length (requests_sent past)) ≡ None = past_end (length (requests_sent past)) (groups_in past) a.all in
     let bytes : total (groups_in past) ≡ m.offset = sym (c.offset ∙ ap total (take_whole (length (requests_sent past)) (groups_in past) a.all)) in
-    let each : are_answered past ≡ (length m.unanswered.items == 0) = sym (answered-is s past m c) in
-    let same : (length (requests_sent past) == length (groups_in past)) ≡ not m.end_sent =
-    equal_is (length (requests_sent past)) (length (groups_in past)) a.all (in_turn s past c.lawful).0 ∙ ap not (sym c.end_sent) in
-    let over : is_ended past ≡ m.ended = sym c.ended in
-    rw (going, none, same, over, each, bytes, c.sent) refl
+    let same : (length (requests_sent past) == length (groups_in past)) ≡ not (nat_lt (length (groups_in past)) (length (requests_sent past))) =
+    equal_is (length (requests_sent past)) (length (groups_in past)) a.all (in_turn s past c.lawful).0 in
+    rw (going, none, same, bytes, c.asked.sent) refl
   where
     equal_is : (n g : ℕ) → g ≤ n → n ≤ g + 1 → (n == g) ≡ not (nat_lt g n)
     equal_is n g lo hi = by_test (nat_lt g n) refl where
@@ -169,28 +158,27 @@ end-due s past m c a h =
       by_test true e = let h : g < n = grind (arith, nat_tests) in let apart : (n == g) ≡ false = grind (arith, nat_tests) in apart
       by_test false e = let h : n ≤ g = grind (arith, nat_tests) in let same : (n == g) ≡ true = grind (arith, nat_tests) in same
 
-pub failed-none : (s : Setup) (past : List ClientEvent) (m : PutRequests) → RequestsStand s past m → is_some m.fault ≡ true → next_request s past ≡ None
-failed-none s past m c h = let failed : has_failed past ≡ true = ap is_some (sym c.fault) ∙ h in rw failed refl
+pub failed-none : (s : Setup) (past : List ClientEvent) (m : PutRequests) → RequestsStand s past m → is_some m.asked.fault ≡ true → next_request s past ≡ None
+failed-none s past m c h = let failed : has_failed past ≡ true = ap is_some (sym c.asked.fault) ∙ h in rw failed refl
 
 pub stand-none : (s : Setup) (past : List ClientEvent) (m : PutRequests) → RequestsStand s past m → next_request s past ≡ None → RequestsStand s (after_sending (next_request s past) past) m
 stand-none s past m c e = subst (λ (r : Option Request). RequestsStand s (after_sending r past) m) (sym e) c
 
 -- END is due, or nothing
-pub end-none : (s : Setup) (past : List ClientEvent) (m : PutRequests) → RequestsStand s past m → AllSent past → is_over_of m ≡ false → next_request s past ≡ None
-end-none s past m c a e = by_fault (is_some m.fault) refl where
-  by_fault : (t : Bool) → is_some m.fault ≡ t → next_request s past ≡ None
+pub end-none : (s : Setup) (past : List ClientEvent) (m : PutRequests) → RequestsStand s past m → AllSent past → is_over past ≡ false → next_request s past ≡ None
+end-none s past m c a e = by_fault (is_some m.asked.fault) refl where
+  by_fault : (t : Bool) → is_some m.asked.fault ≡ t → next_request s past ≡ None
   by_fault true h = failed-none s past m c h
-  by_fault false h = end-due s past m c a h ∙ ap (λ (t : Bool). cond t (Some (end_request (m.sent + 1) m.offset)) None) e
+  by_fault false h = end-due s past m c a h ∙ ap (λ (t : Bool). cond t (Some (end_request (m.asked.sent + 1) m.offset)) None) e
 
-pub end-some : (s : Setup) (past : List ClientEvent) (m : PutRequests) → RequestsStand s past m → AllSent past → is_some m.fault ≡ false → is_over_of m ≡ true
-    → next_request s past ≡ Some (end_request (m.sent + 1) m.offset)
-end-some s past m c a h e = end-due s past m c a h ∙ ap (λ (t : Bool). cond t (Some (end_request (m.sent + 1) m.offset)) None) e
+pub end-some : (s : Setup) (past : List ClientEvent) (m : PutRequests) → RequestsStand s past m → AllSent past → is_some m.asked.fault ≡ false → is_over past ≡ true
+    → next_request s past ≡ Some (end_request (m.asked.sent + 1) m.offset)
+end-some s past m c a h e = end-due s past m c a h ∙ ap (λ (t : Bool). cond t (Some (end_request (m.asked.sent + 1) m.offset)) None) e
 
-pub finished-is : (s : Setup) (past : List ClientEvent) (m : PutRequests) → RequestsStand s past m → (m.end_sent && length m.unanswered.items == 0) ≡ is_finished past
+pub finished-is : (s : Setup) (past : List ClientEvent) (m : PutRequests) → RequestsStand s past m → (m.end_sent && are_answered past) ≡ is_finished past
 finished-is s past m c =
-    let each : (length m.unanswered.items == 0) ≡ are_answered past = answered-is s past m c in
     let sent : m.end_sent ≡ (length (requests_sent past) == length (groups_in past) + 1) = c.end_sent ∙ last (length (groups_in past)) (length (requests_sent past)) (in_turn s past c.lawful).0 in
-    rw (each, sent) refl
+    rw sent refl
   where
     last : (g n : ℕ) → n ≤ g + 1 → nat_lt g n ≡ (n == g + 1)
     last g n h = by_test (nat_lt g n) refl where
@@ -198,39 +186,7 @@ finished-is s past m c =
       by_test true e = let k : g < n = grind (arith, nat_tests) in let same : (n == g + 1) ≡ true = grind (arith, nat_tests) in sym same
       by_test false e = let k : n ≤ g = grind (arith, nat_tests) in let apart : (n == g + 1) ≡ false = grind (arith, nat_tests) in sym apart
 
--- ---- replies
-
--- the oldest request, and those after it
-pub first-awaited : (us : List Unanswered) (rs : List Request) (asked : Asked) → map awaited_in us ≡ map awaited_by rs → first_asked us ≡ Some asked
-    → (r : Request) × (rs ≡ r ∷ drop 1 rs) × (asked_by r ≡ asked) × (first_named rs ≡ r.descriptors)
-first-awaited [] rs asked e f = absurd (let b : ⊥ = cc in b)
-first-awaited (u ∷ us) [] asked e f = absurd (let b : ⊥ = cc in b)
-first-awaited (u ∷ us) (r ∷ rs) asked e f =
-    let same : awaited_in u ≡ awaited_by r = cc in
-    let own : u.asked ≡ asked = cc in
-    (r, refl, sym (ap (λ (x : Awaited). x.asked) same) ∙ own, refl)
-
-pub none-awaited : (us : List Unanswered) (rs : List Request) → map awaited_in us ≡ map awaited_by rs → us ≡ [] → rs ≡ []
-none-awaited us [] e f = refl
-none-awaited us (r ∷ rs) e f = absurd (let g : map awaited_in us ≡ [] = ap (map awaited_in) f in let b : ⊥ = cc in b)
-
-pub rest-awaited : (us : List Unanswered) (rs : List Request) (u : Unanswered) → map awaited_in us ≡ map awaited_by rs → us ≡ u ∷ drop 1 us
-    → (map awaited_in (drop 1 us) ≡ map awaited_by (drop 1 rs)) × (map (λ (p : Descriptor). p) (awaited_in u).named ≡ map (λ (p : Descriptor). p) (first_named rs))
-rest-awaited [] rs u e f = absurd (let b : ⊥ = cc in b)
-rest-awaited (x ∷ xs) [] u e f = absurd (let b : ⊥ = cc in b)
-rest-awaited (x ∷ xs) (r ∷ rs) u e f =
-    let same : awaited_in x ≡ awaited_by r = cc in
-    let own : x ≡ u = cc in
-    (cc, ap (λ (y : Unanswered). map (λ (p : Descriptor). p) (awaited_in y).named) (sym own) ∙ ap (λ (y : Awaited). map (λ (p : Descriptor). p) y.named) same)
-
--- what refuses a message, where no reply was refused before
-pub refused-is : (s : Setup) (past : List ClientEvent) (m : PutRequests) (asked : Asked) (message : List ℕ) → RequestsStand s past m → m.fault ≡ None
-    → first_asked m.unanswered.items ≡ Some asked → fault_of_reading (reply_of asked message) ≡ reply_fault (answers past) message
-refused-is s past m asked message c none first =
-    let oldest = first-awaited m.unanswered.items (answers past).unanswered asked c.unanswered first in
-    let fresh : (answers past).fault ≡ None = sym c.fault ∙ none in
-    sym (ap (λ (o : Option ReplyFault). lasting_or o (fault_for (answers past).unanswered message)) fresh
-    ∙ ap (λ (rs : List Request). fault_for rs message) oldest.1 ∙ ap (λ (a : Asked). fault_of_reading (reply_of a message)) oldest.2)
+-- ---- what comes next
 
 -- where each group was sent the next request is END
 pub end-only : (s : Setup) (past : List ClientEvent) (r : Request) → AllSent past → next_request s past ≡ Some r

@@ -1,6 +1,11 @@
 pub mod ServerTurn
 pub mod ServerStands
 pub mod ClientJobs
+pub mod ClientStands
+pub mod GetStands
+pub mod GetPagesStand
+pub mod GetRegisteredStands
+pub mod GetClientStands
 pub mod PutClientStands
 pub mod PutInlineStands
 pub mod PutPagesStand

@@ -10,7 +10,8 @@ use Rattle.file_transfer.specs.declared.put_client.Groups.{Groups}
 use Rattle.file_transfer.specs.declared.put_client.Groups.TheVariants.{Inline, Registered}
 use Rattle.file_transfer.specs.declared.put_inline.InlineGroups.{InlineGroups}
 use Rattle.file_transfer.specs.declared.put_registered.RegisteredGroups.{RegisteredGroups}
-use Rattle.file_transfer.specs.PutStands.{RequestsStand, descriptor_in, first_named}
+use Rattle.file_transfer.specs.ClientStands.{descriptor_in, first_named}
+use Rattle.file_transfer.specs.PutStands.{RequestsStand}
 use Rattle.file_transfer.specs.PutInlineStands.{InlineStands, without_pages}
 use Rattle.file_transfer.specs.PutRegisteredStands.{RegisteredStand}
 

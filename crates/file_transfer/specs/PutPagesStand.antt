@@ -9,7 +9,7 @@ use Rattle.file_transfer.specs.declared.client_jobs.Jobs.{Jobs}
 use Rattle.file_transfer.specs.declared.put_pages.Page.{Page}
 use Rattle.file_transfer.specs.declared.put_pages.UnderWay.{UnderWay}
 use Rattle.file_transfer.specs.ClientJobs.{JobsStand}
-use Rattle.file_transfer.specs.PutStands.{descriptor_in}
+use Rattle.file_transfer.specs.ClientStands.{descriptor_in}
 
 -- ---- one page
 

@@ -1,8 +1,9 @@
 //! The jobs of a client's machine: those that are due, and those that were given and are not completed.
 
-ghost use Rattle.std.specs.Prelude.{◌≡◌, ◌+◌, ◌<◌, ◌≤◌, ◌^◌, ℕ, List, [], ◌∷◌, ◌++◌, Option, Some, None, IfOk, OnOk, OnErr, IsNone, length, slice_get, position, ◌==◌, IfSome, vec_len, vec_capacity};
+ghost use Rattle.std.specs.Prelude.{◌≡◌, ◌+◌, ◌<◌, ◌≤◌, ◌^◌, ℕ, List, [], ◌∷◌, ◌++◌, Option, Some, None, IfOk, OnOk, OnErr, IsNone, map, length, slice_get, position, ◌==◌, IfSome, vec_len, vec_capacity};
 ghost use Rattle.std.specs.VecDeque.{deque_len, deque_capacity};
 
+use crate::loaded_page::LoadedPage;
 use file_messages::{Job, Work};
 use smbd_base::NoMemory;
 use std::alloc::Global;
@@ -35,7 +36,8 @@ impl Jobs {
     ghost use Rattle.file_messages.specs.declared.job.Completion.{Completion};
     ghost use Rattle.file_transfer.specs.declared.client_jobs.OutstandingJob.{OutstandingJob};
     ghost use Rattle.file_pasts.specs.ClientPast.{ClientEvent, Completed, jobs_given, open_jobs, job_at, page_unloaded};
-    ghost use Rattle.file_pasts.specs.PutDue.{numbered};
+    ghost use Rattle.file_pasts.specs.PutDue.{numbered, unloads_of};
+    ghost use Rattle.file_transfer.specs.ClientStands.{descriptor_in};
     ghost use Rattle.file_transfer.specs.ClientJobs.{JobsStand, after_giving};
 
     /// No jobs, and no room for any.
@@ -90,6 +92,30 @@ impl Jobs {
     {
         self.kept -= 1;
         self.due.push_back_reserved(work);
+    }
+
+    /// These come due, and are no longer kept elsewhere.
+    pub fn add_all(&mut self, works: &mut VecDeque<Work>)
+        requires { length works.old.items ≤ self.old.kept }
+        ensures kept { self.new.kept + length works.old.items ≡ self.old.kept }
+        ensures more { (came_due : List Work) (past : List ClientEvent) → JobsStand came_due past self.old → JobsStand (came_due ++ works.old.items) past self.new }
+    {
+        while let Some(work) = works.pop_front() {
+            self.add(work);
+        }
+    }
+
+    /// Unloads of these pages come due.
+    pub fn unload(&mut self, pages: &[LoadedPage])
+        requires { length pages.now ≤ self.old.kept }
+        ensures kept { self.new.kept + length pages.now ≡ self.old.kept }
+        ensures more { (came_due : List Work) (past : List ClientEvent) → JobsStand came_due past self.old
+            → JobsStand (came_due ++ unloads_of (map descriptor_in pages.now)) past self.new }
+    {
+        for page in pages {
+            let token = page.token();
+            self.add(Work::Unload { token });
+        }
     }
 
     /// The next job that is due.

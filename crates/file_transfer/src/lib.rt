@@ -1,4 +1,4 @@
-//! The file layer's machines (this project's own): the client of a put, and the server of a put and of a get. They take and give
+//! The file layer's machines (this project's own): the client of a put, the client of a get, and the server of both. They take and give
 //! messages, and jobs for whoever works on registered pages; they keep no history, and no clock or thread drives them.
 //!
 //! What each answer means is told by the past: what was handed to the machine and what it gave, the newest first
@@ -6,7 +6,15 @@
 #![tactic(auto)]
 
 mod client_jobs;
+mod client_requests;
+mod get_client;
+mod get_groups;
+mod get_inline;
+mod get_pages;
+mod get_registered;
+mod get_requests;
 mod loaded_page;
+mod messages;
 mod put_client;
 mod put_inline;
 mod put_pages;
@@ -19,5 +27,6 @@ mod server_reply;
 mod server_turn;
 mod writing;
 
+pub use get_client::GetClient;
 pub use put_client::PutClient;
 pub use server::FileServer;

@@ -6,7 +6,7 @@ ghost use Rattle.file_pasts.specs.ClientPast.{ClientEvent, Group, End, Completed
 ghost use Rattle.file_pasts.specs.PutDue.{Setup, IsPut, Follows, wants_group, has_room, next_request, next_job, is_finished};
 ghost use Rattle.file_pasts.specs.PutLaws.{put_over};
 ghost use Rattle.file_transfer.specs.ClientJobs.{after_giving};
-ghost use Rattle.file_transfer.specs.PutStands.{after_sending, with_error, descriptor_in, first_named};
+ghost use Rattle.file_transfer.specs.ClientStands.{after_sending, with_error, descriptor_in, first_named};
 ghost use Rattle.file_transfer.specs.PutClientStands.{GroupsCame, MayTakeGroup, MayGiveJob, MayCompleteJob, MayUnloadPages, CameBy, HasCome, MayHand, MayComplete, MaySend};
 
 use crate::loaded_page::LoadedPage;

@@ -4,10 +4,11 @@ ghost use Rattle.std.specs.Prelude.{◌≡◌, ◌+◌, ◌-◌, ◌^◌, ◌<�
 ghost use Rattle.file_messages.specs.Messages.{request_bytes};
 ghost use Rattle.file_pasts.specs.ClientPast.{ClientEvent, Group, groups_in, requests_sent};
 ghost use Rattle.file_pasts.specs.PutDue.{next_request};
-ghost use Rattle.file_transfer.specs.PutStands.{after_sending};
+ghost use Rattle.file_transfer.specs.ClientStands.{after_sending};
 ghost use Rattle.file_transfer.specs.PutInlineStands.{InlineStands, InlinePutStands, MayAskInline, without_pages};
 
-use crate::put_requests::{PutRequests, Unanswered};
+use crate::client_requests::Unanswered;
+use crate::put_requests::PutRequests;
 use crate::writing::{REQUEST_HEADER, write_inline};
 use file_messages::{Asked, WRITE};
 use smbd_base::{Message, NoMemory};

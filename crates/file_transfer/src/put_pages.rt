@@ -8,7 +8,7 @@ ghost use Rattle.file_pasts.specs.PutDue.{descriptors_for, load_of_part, load_af
 ghost use Rattle.file_pasts.specs.InStep.{IsLoadDone, IsUnloadDone};
 ghost use Rattle.file_transfer.specs.declared.put_pages.Page.{Page};
 ghost use Rattle.file_transfer.specs.declared.put_pages.UnderWay.{UnderWay};
-ghost use Rattle.file_transfer.specs.PutStands.{pages_named};
+ghost use Rattle.file_transfer.specs.ClientStands.{pages_named};
 ghost use Rattle.file_transfer.specs.PutPagesStand.{SlotsStand, PartsTaken, HasRoomOn, SlotsNamed, is_back, under_way_of};
 
 use crate::client_jobs::Jobs;

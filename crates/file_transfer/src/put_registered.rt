@@ -9,15 +9,16 @@ ghost use Rattle.file_pasts.specs.ClientPast.{ClientEvent, Group, Completed, Rep
 ghost use Rattle.file_pasts.specs.PutDue.{Follows, next_request, job_in_turn, load_of_part, has_room as has_room_by};
 ghost use Rattle.file_pasts.specs.InStep.{over};
 ghost use Rattle.file_transfer.specs.ClientJobs.{JobsStand, after_giving};
-ghost use Rattle.file_transfer.specs.PutStands.{after_sending, descriptor_in, first_named};
+ghost use Rattle.file_transfer.specs.ClientStands.{after_sending, descriptor_in, first_named};
 ghost use Rattle.file_transfer.specs.PutRegisteredStands.{RegisteredStand, RegisteredPutStands, IsRegistered, MayGive, MayTake, MayComplete, JobClosed, MayLoad, MayUnload, MayAskRegistered};
 
 use crate::client_jobs::Jobs;
+use crate::client_requests::Unanswered;
 use crate::loaded_page::LoadedPage;
 use crate::put_pages::{
     Page, UnderWay, drop_back, fresh_of, name_pages, note_load, note_unload, take_parts,
 };
-use crate::put_requests::{PutRequests, Unanswered};
+use crate::put_requests::PutRequests;
 use crate::writing::write_over_pages;
 use buffer_descriptor::Descriptor;
 use file_messages::{Asked, Completion, Job, WRITE, Work, WorkResult};
@@ -182,10 +183,7 @@ impl RegisteredGroups {
         ensures { (w : ℕ) (past : List ClientEvent) (message : List ℕ) → RegisteredStand w past self.old → reply_fault (answers past) message ≡ None
             → map descriptor_in pages.now ≡ first_named (answers past).unanswered → RegisteredStand w (Replied message ∷ past) self.new }
     {
-        for page in pages {
-            let token = page.token();
-            self.jobs.add(Work::Unload { token });
-        }
+        self.jobs.unload(pages);
     }
 
     /// The loads that unanswered requests named: room is kept for an Unload of each.

@@ -6,7 +6,8 @@ ghost use Rattle.file_messages.specs.declared.message.Request.{Request};
 ghost use Rattle.file_messages.specs.Messages.{request_bytes, reply_of};
 ghost use Rattle.file_pasts.specs.ClientPast.{ClientEvent, Group, End, Sent, Replied, groups_in, requests_sent, reply_fault as refusal_of, answers, has_failed, fault_of_reading};
 ghost use Rattle.file_pasts.specs.PutDue.{Setup, Follows, next_request, is_finished};
-ghost use Rattle.file_transfer.specs.PutStands.{RequestsStand, AllSent, after_sending, awaited_in, awaited_by, pages_named, first_named, first_asked, goes_on, is_over_of, with_error};
+ghost use Rattle.file_transfer.specs.ClientStands.{after_sending, awaited_in, awaited_by, pages_named, first_named, first_asked, with_error};
+ghost use Rattle.file_transfer.specs.PutStands.{RequestsStand, AllSent, goes_on, is_over as is_over_by};
 
 use crate::client_requests::{ClientRequests, Unanswered};
 use crate::loaded_page::LoadedPage;
@@ -140,7 +141,7 @@ impl PutRequests {
 
     /// The groups have ended, END was not given, and each request has its reply.
     fn is_over(&self) -> bool
-        ensures { (s : Setup) (past : List ClientEvent) → RequestsStand s past self.now → result ≡ is_over past }
+        ensures { (s : Setup) (past : List ClientEvent) → RequestsStand s past self.now → result ≡ is_over_by past }
     {
         self.ended && !self.end_sent && self.asked.unanswered() == 0
     }
@@ -161,4 +162,3 @@ impl PutRequests {
         self.end_sent && self.asked.unanswered() == 0
     }
 }
-

@@ -11,6 +11,7 @@ ghost use Rattle.file_pasts.specs.ServerDue.{ServerEvent, Asked, Completed, Fill
 ghost use Rattle.file_transfer.specs.ServerTurn.{StartsAs, is_success, status_from, header_in, header_of};
 ghost use Rattle.file_transfer.specs.ServerStands.{CameBy, HasCome, MayFill, MayComplete, MayAccept, AnswersRequest, lasts, after_request, after_giving, after_replying, after_storing};
 
+use crate::messages::share;
 use crate::server_course::Course;
 use crate::server_outcomes::{joined, note, status_of};
 use crate::server_reply::{ReplyHeader, reply_of};
@@ -275,13 +276,6 @@ fn lasts(fault: FileFault) -> bool
     ensures { result ≡ lasts fault }
 {
     !matches!(fault, FileFault::NoMemory)
-}
-
-/// The same message, which shares its bytes.
-fn share(message: &Message) -> Result<Message, NoMemory>
-    ensures { IfOk result (λ m. m ≡ message.now) }
-{
-    Ok(message.clone()?)
 }
 
 fn is_success(status: Option<u16>) -> bool

@@ -5,7 +5,7 @@ ghost use Rattle.std.specs.List.{flat_map};
 ghost use Rattle.buffer_descriptor.specs.Descriptors.{descriptor_bytes};
 ghost use Rattle.file_messages.specs.Messages.{request_bytes, header_bytes};
 ghost use Rattle.file_messages.specs.Runs.{inline_write, end_request};
-ghost use Rattle.file_transfer.specs.PutStands.{descriptor_in};
+ghost use Rattle.file_transfer.specs.ClientStands.{descriptor_in};
 
 use crate::loaded_page::LoadedPage;
 use buffer_descriptor::write;

@@ -6,7 +6,8 @@ use Rattle.file_messages.specs.Runs.{inline_write}
 use Rattle.file_pasts.specs.ClientPast.{groups_in, requests_sent, total}
 use Rattle.file_pasts.specs.PutDue.{next_request}
 use Rattle.file_transfer.specs.declared.loaded_page.LoadedPage.{LoadedPage}
-use Rattle.file_transfer.specs.PutStands.{RequestsStand, descriptor_in, after_sending}
+use Rattle.file_transfer.specs.ClientStands.{descriptor_in, after_sending}
+use Rattle.file_transfer.specs.PutStands.{RequestsStand}
 use Rattle.file_transfer.specs.PutInlineStands.{InlinePutStands, without_pages}
 use Rattle.file_transfer.proofs.PutInlineLemmas.{first_write, none_wait, write-due, fits-write, stand-asked, stand-ended, nothing_left, on_ok-map, going_on}
 use Rattle.file_transfer.proofs.put_inline.next_inline.Goals as goal
@@ -61,7 +62,7 @@ returns-clause-after c = λ w past s.
     let fits = fits-write w past c.args.requests.now c.in-Some.message c.pop_front.new.self.items f s.requests in
     let r : Request = inline_write (length (requests_sent past) + 1) (total (take (length (requests_sent past)) (groups_in past))) f.group in
     let due : next_request (without_pages w) past ≡ Some r = write-due w past c.args.requests.now c.in-Some.message c.pop_front.new.self.items f s.requests going in
-    let id_is : c.sent.result + 1 ≡ length (requests_sent past) + 1 = omega (arith, c.sent.ensures, c.reserve.ensures.counts.0, s.requests.sent) in
+    let id_is : c.sent.result + 1 ≡ length (requests_sent past) + 1 = omega (arith, c.sent.ensures, c.reserve.ensures.counts.0, s.requests.asked.sent) in
     let size_is : c.len.result - 24 ≡ length f.group = omega (arith, c.len.ensures, fits.size) in
     subst (λ (o : Option Request). InlinePutStands w (after_sending o past) c.ask.new.self (record { waiting = c.pop_front.new.self; count = c.args.groups.now.count; bytes = c.args.groups.now.bytes })) (sym due)
     (record {

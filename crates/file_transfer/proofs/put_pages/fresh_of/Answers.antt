@@ -3,7 +3,7 @@ use Rattle.std.proofs.lemmas.Option.{slice_get_read}
 use Rattle.std.proofs.lemmas.List.{map-append}
 use Rattle.buffer_descriptor.specs.declared.descriptor.Descriptor.{Descriptor}
 use Rattle.file_transfer.specs.declared.loaded_page.LoadedPage.{LoadedPage}
-use Rattle.file_transfer.specs.PutStands.{descriptor_in}
+use Rattle.file_transfer.specs.ClientStands.{descriptor_in}
 use Rattle.file_transfer.proofs.PutPagesLemmas.{HasFound, found-none, found-more, found-missing, found-all}
 use Rattle.file_transfer.proofs.put_pages.fresh_of.Goals as goal
 

@@ -1,6 +1,6 @@
 use Rattle.std.proofs.Common.{◌≡◌, ◌≤◌, ℕ, List, length, map}
 use Rattle.file_pasts.specs.ClientPast.{ClientEvent}
-use Rattle.file_transfer.specs.PutStands.{descriptor_in}
+use Rattle.file_transfer.specs.ClientStands.{descriptor_in}
 use Rattle.file_transfer.specs.PutPagesStand.{SlotsStand}
 use Rattle.file_transfer.proofs.PutPagesLemmas.{HasFound}
 use Rattle.file_transfer.proofs.put_pages.fresh_of.Given as goal

@@ -11,7 +11,8 @@ use Rattle.file_pasts.specs.InStep.{over}
 use Rattle.file_pasts.proofs.GroupLemmas.{short_at, total-take-short}
 use Rattle.file_pasts.proofs.Naming.{all_short, few_pages}
 use Rattle.file_transfer.specs.declared.loaded_page.LoadedPage.{LoadedPage}
-use Rattle.file_transfer.specs.PutStands.{RequestsStand, descriptor_in, pages_named, after_sending}
+use Rattle.file_transfer.specs.ClientStands.{descriptor_in, pages_named, after_sending}
+use Rattle.file_transfer.specs.PutStands.{RequestsStand}
 use Rattle.file_transfer.specs.declared.put_registered.RegisteredGroups.{RegisteredGroups}
 use Rattle.file_transfer.specs.PutRegisteredStands.{RegisteredStand, RegisteredPutStands}
 use Rattle.file_transfer.proofs.PutBounds.{descriptors-length}
@@ -48,23 +49,23 @@ returns-in_default-2-clause-due c = λ w past s.
     let n = next_group w past c.args.groups.now c.in-Some.size (drop 1 c.args.groups.now.waiting.items) s.groups c.in-Some.ensures.some in
     let going : has_failed past ≡ false = sym (c.has_failed.ensures (over w) past s.requests) ∙ c.if-has_failed.false in
     let first_is : c.page_after-first.result ≡ length (requests_sent past) % w * 16 =
-    c.page_after-first.ensures.at w past s.groups ∙ ap (λ (k : ℕ). k % w * 16) (c.from.ensures ∙ c.sent.ensures ∙ s.requests.sent) in
+    c.page_after-first.ensures.at w past s.groups ∙ ap (λ (k : ℕ). k % w * 16) (c.from.ensures ∙ c.sent.ensures ∙ s.requests.asked.sent) in
     let none : descriptors_for c.page_after-first.result (pages_of n.group) past ≡ None =
     sym (c.in_ok-pages.ensures w past (pages_of n.group) s.groups.slots (sym (c.pages_in-count.ensures n.group n.size_is))) ∙ ap (option_map pages_named) c.in_default-2.is in
     ap (option_map request_bytes) (sym (pages-due w c.page_after-first.result c.in-Some.size past c.args.requests.now (drop 1 c.args.groups.now.waiting.items) n s.requests going first_is
-    ∙ ap (option_map (registered_write (c.args.requests.now.sent + 1) c.args.requests.now.offset n.group)) none))
+    ∙ ap (option_map (registered_write (c.args.requests.now.asked.sent + 1) c.args.requests.now.offset n.group)) none))
 
 pub returns-in_default-2-clause-after : goal.returns-in_default-2-clause-after
 returns-in_default-2-clause-after c = λ w past s.
     let n = next_group w past c.args.groups.now c.in-Some.size (drop 1 c.args.groups.now.waiting.items) s.groups c.in-Some.ensures.some in
     let going : has_failed past ≡ false = sym (c.has_failed.ensures (over w) past s.requests) ∙ c.if-has_failed.false in
     let first_is : c.page_after-first.result ≡ length (requests_sent past) % w * 16 =
-    c.page_after-first.ensures.at w past s.groups ∙ ap (λ (k : ℕ). k % w * 16) (c.from.ensures ∙ c.sent.ensures ∙ s.requests.sent) in
+    c.page_after-first.ensures.at w past s.groups ∙ ap (λ (k : ℕ). k % w * 16) (c.from.ensures ∙ c.sent.ensures ∙ s.requests.asked.sent) in
     let none : descriptors_for c.page_after-first.result (pages_of n.group) past ≡ None =
     sym (c.in_ok-pages.ensures w past (pages_of n.group) s.groups.slots (sym (c.pages_in-count.ensures n.group n.size_is))) ∙ ap (option_map pages_named) c.in_default-2.is in
     let due : next_request (over w) past ≡ None =
     pages-due w c.page_after-first.result c.in-Some.size past c.args.requests.now (drop 1 c.args.groups.now.waiting.items) n s.requests going first_is
-    ∙ ap (option_map (registered_write (c.args.requests.now.sent + 1) c.args.requests.now.offset n.group)) none in
+    ∙ ap (option_map (registered_write (c.args.requests.now.asked.sent + 1) c.args.requests.now.offset n.group)) none in
     subst (λ (o : Option Request). RegisteredPutStands w (after_sending o past) c.args.requests.now c.args.groups.now) (sym due) s
 
 pub write_over_pages-requires : goal.write_over_pages-requires
@@ -113,7 +114,7 @@ returns-clause-due c = λ w past s.
     let ps : List LoadedPage = c.in-Some-2.pages.items in
     let going : has_failed past ≡ false = sym (c.has_failed.ensures (over w) past s.requests) ∙ c.if-has_failed.false in
     let first_is : c.page_after-first.result ≡ length (requests_sent past) % w * 16 =
-    c.page_after-first.ensures.at w past s.groups ∙ ap (λ (k : ℕ). k % w * 16) (c.from.ensures ∙ c.sent.ensures ∙ s.requests.sent) in
+    c.page_after-first.ensures.at w past s.groups ∙ ap (λ (k : ℕ). k % w * 16) (c.from.ensures ∙ c.sent.ensures ∙ s.requests.asked.sent) in
     let found : descriptors_for c.page_after-first.result (pages_of n.group) past ≡ Some (pages_named c.in-Some-2.pages) =
     sym (c.in_ok-pages.ensures w past (pages_of n.group) s.groups.slots (sym (c.pages_in-count.ensures n.group n.size_is))) ∙ ap (option_map pages_named) c.in-Some-2.is in
     let due : next_request (over w) past ≡ Some (registered_write (q.sent + 1) q.offset n.group (pages_named c.in-Some-2.pages)) =
@@ -136,7 +137,7 @@ returns-clause-after c = λ w past s.
     let going : has_failed past ≡ false = sym (c.has_failed.ensures (over w) past s.requests) ∙ c.if-has_failed.false in
     let count = c.pages_in-count.ensures n.group n.size_is in
     let first_is : c.page_after-first.result ≡ length (requests_sent past) % w * 16 =
-    c.page_after-first.ensures.at w past s.groups ∙ ap (λ (k : ℕ). k % w * 16) (c.from.ensures ∙ c.sent.ensures ∙ s.requests.sent) in
+    c.page_after-first.ensures.at w past s.groups ∙ ap (λ (k : ℕ). k % w * 16) (c.from.ensures ∙ c.sent.ensures ∙ s.requests.asked.sent) in
     let found : descriptors_for c.page_after-first.result (pages_of n.group) past ≡ Some (pages_named c.in-Some-2.pages) =
     sym (c.in_ok-pages.ensures w past (pages_of n.group) s.groups.slots (sym count)) ∙ ap (option_map pages_named) c.in-Some-2.is in
     let r : Request = registered_write (q.sent + 1) q.offset n.group (pages_named c.in-Some-2.pages) in

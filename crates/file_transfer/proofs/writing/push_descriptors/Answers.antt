@@ -5,7 +5,7 @@ use Rattle.std.proofs.lemmas.List.Concat.{flat_map-append}
 use Rattle.buffer_descriptor.specs.declared.descriptor.Descriptor.{Descriptor}
 use Rattle.buffer_descriptor.specs.Descriptors.{descriptor_bytes}
 use Rattle.file_transfer.specs.declared.loaded_page.LoadedPage.{LoadedPage}
-use Rattle.file_transfer.specs.PutStands.{descriptor_in}
+use Rattle.file_transfer.specs.ClientStands.{descriptor_in}
 use Rattle.file_transfer.proofs.writing.push_descriptors.Goals as goal
 
 bytes-more : (text : List ℕ) (ps : List LoadedPage) (i : ℕ) (p : LoadedPage) (before bytes after : List ℕ) → i < length ps → p ≡ get_or ps i p

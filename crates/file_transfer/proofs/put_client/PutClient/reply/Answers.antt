@@ -1,5 +1,5 @@
 use Rattle.std.proofs.Common.{map, sym, ap, ◌∙◌}
-use Rattle.file_transfer.specs.PutStands.{descriptor_in}
+use Rattle.file_transfer.specs.ClientStands.{descriptor_in}
 use Rattle.file_transfer.proofs.PutClientLemmas.{groups-refused}
 use Rattle.file_transfer.proofs.put_client.PutClient.reply.Goals as goal
 

@@ -1,64 +1,13 @@
-use Rattle.std.proofs.Common.{◌≡◌, ◌+◌, ◌<◌, ◌≤◌, ◌++◌, ℕ, zero, suc, List, [], ◌∷◌, length, take, map, get_or, refl, sym, ap, ◌∙◌, subst, append_assoc, arith}
-use Rattle.std.specs.Prelude.{vec_capacity}
-use Rattle.std.proofs.lemmas.List.{take_more, map-append, append-nil}
+use Rattle.std.proofs.Common.{◌++◌, List, length, refl, ap, subst, arith}
 use Rattle.buffer_descriptor.specs.declared.descriptor.Descriptor.{Descriptor}
-use Rattle.file_messages.specs.declared.job.Work.{Work}
-use Rattle.file_messages.specs.declared.job.Work.TheVariants.{Unload}
-use Rattle.file_pasts.specs.ClientPast.{token_in}
 use Rattle.file_pasts.specs.PutDue.{unloads_of, jobs_due}
-use Rattle.file_transfer.specs.declared.loaded_page.LoadedPage.{LoadedPage}
 use Rattle.file_transfer.specs.ClientJobs.{JobsStand}
-use Rattle.file_transfer.specs.PutStands.{descriptor_in}
 use Rattle.file_transfer.proofs.PutRegisteredLemmas.{stand-replied, length-pages}
 use Rattle.file_transfer.proofs.put_registered.RegisteredGroups.unload.Goals as goal
 
-pub loop-page-init : goal.loop-page-init
-loop-page-init c = record {
-  kept = omega arith;
-  due = λ came_due past j. subst (λ (ws : List Work). JobsStand ws past c.args.self.now.jobs) (sym (append-nil came_due)) j;
-  slots = refl;
-  under_way = refl;
-  count = refl;
-  waiting = refl;
-}
-
-unloads-more : (came_due : List Work) (ps : List LoadedPage) (i : ℕ) (p : LoadedPage) → i < length ps → p ≡ get_or ps i p
-    → (came_due ++ unloads_of (map descriptor_in (take i ps))) ++ Unload (token_in p.descriptor) ∷ [] ≡ came_due ++ unloads_of (map descriptor_in (take (i + 1) ps))
-unloads-more came_due ps i p h e =
-    append_assoc came_due (unloads_of (map descriptor_in (take i ps))) (Unload (token_in p.descriptor) ∷ [])
-    ∙ ap (λ (ws : List Work). came_due ++ ws)
-    (ap (λ (q : LoadedPage). unloads_of (map descriptor_in (take i ps)) ++ Unload (token_in q.descriptor) ∷ []) e
-    ∙ sym (map-append (λ (d : Descriptor). Unload (token_in d)) (map descriptor_in (take i ps)) ((get_or ps i p).descriptor ∷ []))
-    ∙ ap unloads_of (sym (map-append descriptor_in (take i ps) (get_or ps i p ∷ [])))
-    ∙ ap (λ (qs : List LoadedPage). unloads_of (map descriptor_in qs)) (sym (take_more ps i p h)))
-
-pub loop-page-preserved : goal.loop-page-preserved
-loop-page-preserved c =
-    let i = c.loop-page.invariant in
-    record {
-      kept = omega (arith, i.kept, c.add.ensures.kept);
-      due = λ came_due past j.
-          subst (λ (ws : List Work). JobsStand ws past c.add.new.self)
-          (ap (λ t. (came_due ++ unloads_of (map descriptor_in (take c.loop-page.page-index c.args.pages.now))) ++ Unload t ∷ []) c.token-token.ensures
-          ∙ unloads-more came_due c.args.pages.now c.loop-page.page-index c.page-item.result (omega arith) c.page-item.is)
-          (c.add.ensures.more (came_due ++ unloads_of (map descriptor_in (take c.loop-page.page-index c.args.pages.now))) past (i.due came_due past j));
-      slots = i.slots;
-      under_way = i.under_way;
-      count = i.count;
-      waiting = i.waiting;
-    }
-
-take_whole : (n : ℕ) (ps : List LoadedPage) → length ps ≤ n → take n ps ≡ ps
-take_whole zero [] h = refl
-take_whole (suc n) [] h = refl
-take_whole zero (p ∷ ps) h = absurd (omega arith)
-take_whole (suc n) (p ∷ ps) h = ap (λ (t : List LoadedPage). p ∷ t) (take_whole n ps (omega arith))
-
 pub returns : goal.returns
 returns c = λ w past message s taken named.
-    let i = c.loop-page.invariant in
-    let all : map descriptor_in (take c.loop-page.page-index c.args.pages.now) ≡ map descriptor_in c.args.pages.now = ap (map descriptor_in) (take_whole c.loop-page.page-index c.args.pages.now (omega arith)) in
-    stand-replied w past message c.args.self.now c.loop-page.self s taken
-    (subst (λ (ds : List Descriptor). JobsStand (jobs_due w past ++ unloads_of ds) past c.loop-page.self.jobs) (all ∙ named) (i.due (jobs_due w past) past s.due))
-    (omega (arith, i.kept, ap length named, length-pages c.args.pages.now))
-    (ap (λ v. v.items) i.slots) (ap (λ v. v.items) i.under_way) i.count (ap (λ v. v.items) i.waiting) (ap (λ v. vec_capacity v) i.under_way)
+    stand-replied w past message c.args.self.now _ s taken
+    (subst (λ (ds : List Descriptor). JobsStand (jobs_due w past ++ unloads_of ds) past c.unload.new.self) named (c.unload.ensures.more (jobs_due w past) past s.due))
+    (omega (arith, c.unload.ensures.kept, ap length named, length-pages c.args.pages.now))
+    refl refl refl refl refl

@@ -4,4 +4,4 @@ use Rattle.file_transfer.proofs.put_requests.PutRequests.ask.Goals as goal
 
 pub returns : goal.returns
 returns c = λ s past r stands due is.
-    stand-sent s past c.args.self.now _ r c.args.request stands due is c.push_back_reserved.ensures.items refl (ap (λ (n : ℕ). c.args.self.now.offset + n) c.from.ensures) refl refl refl refl
+    stand-sent s past c.args.self.now _ r c.args.request stands due is (c.ask.ensures past r stands.asked is) (ap (λ (n : ℕ). c.args.self.now.offset + n) c.from.ensures) refl refl refl
