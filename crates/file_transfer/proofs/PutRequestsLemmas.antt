@@ -1,5 +1,5 @@
 -- The requests of a put, and their replies.
-use Rattle.std.proofs.Common.{◌≡◌, inl, inr, ℕ, zero, suc, ◌+◌, ◌<◌, ◌≤◌, ◌==◌, nat_lt, not, ◌&&◌, Bool, true, false, cond, is_some, Option, Some, None, List, [], ◌∷◌, ◌++◌, length, take, refl, sym, ap, ◌∙◌, subst, add-one, length-append, arith}
+use Rattle.std.proofs.Common.{◌≡◌, inl, inr, ℕ, zero, suc, ◌+◌, ◌<◌, ◌≤◌, ◌==◌, nat_lt, not, ◌&&◌, Bool, true, false, cond, Option, Some, None, List, [], ◌∷◌, ◌++◌, length, take, refl, sym, ap, ◌∙◌, subst, add-one, length-append, arith}
 use Rattle.std.specs.Prelude.{slice_get, option_map}
 use Rattle.std.proofs.lemmas.Bool.Decides.{nat_tests}
 use Rattle.std.proofs.lemmas.List.{take-append-le}
@@ -142,10 +142,10 @@ stand-ended s past m n c due asked offset end_sent ended whole =
 -- ---- END
 
 -- whether END is due, where each group was sent and no reply was refused
-pub end-due : (s : Setup) (past : List ClientEvent) (m : PutRequests) → RequestsStand s past m → AllSent past → is_some m.asked.fault ≡ false
+pub end-due : (s : Setup) (past : List ClientEvent) (m : PutRequests) → RequestsStand s past m → AllSent past → has_failed past ≡ false
     → next_request s past ≡ cond (is_over past) (Some (end_request (m.asked.sent + 1) m.offset)) None
 end-due s past m c a h =
-    let going : has_failed past ≡ false = ap is_some (sym c.asked.fault) ∙ h in
+    let going : has_failed past ≡ false = h in
     let none : slice_get (groups_in past) (length (requests_sent past)) ≡ None = past_end (length (requests_sent past)) (groups_in past) a.all in
     let bytes : total (groups_in past) ≡ m.offset = sym (c.offset ∙ ap total (take_whole (length (requests_sent past)) (groups_in past) a.all)) in
     let same : (length (requests_sent past) == length (groups_in past)) ≡ not (nat_lt (length (groups_in past)) (length (requests_sent past))) =
@@ -158,20 +158,20 @@ end-due s past m c a h =
       by_test true e = let h : g < n = grind (arith, nat_tests) in let apart : (n == g) ≡ false = grind (arith, nat_tests) in apart
       by_test false e = let h : n ≤ g = grind (arith, nat_tests) in let same : (n == g) ≡ true = grind (arith, nat_tests) in same
 
-pub failed-none : (s : Setup) (past : List ClientEvent) (m : PutRequests) → RequestsStand s past m → is_some m.asked.fault ≡ true → next_request s past ≡ None
-failed-none s past m c h = let failed : has_failed past ≡ true = ap is_some (sym c.asked.fault) ∙ h in rw failed refl
+pub failed-none : (s : Setup) (past : List ClientEvent) (m : PutRequests) → RequestsStand s past m → has_failed past ≡ true → next_request s past ≡ None
+failed-none s past m c h = rw h refl
 
 pub stand-none : (s : Setup) (past : List ClientEvent) (m : PutRequests) → RequestsStand s past m → next_request s past ≡ None → RequestsStand s (after_sending (next_request s past) past) m
 stand-none s past m c e = subst (λ (r : Option Request). RequestsStand s (after_sending r past) m) (sym e) c
 
 -- END is due, or nothing
 pub end-none : (s : Setup) (past : List ClientEvent) (m : PutRequests) → RequestsStand s past m → AllSent past → is_over past ≡ false → next_request s past ≡ None
-end-none s past m c a e = by_fault (is_some m.asked.fault) refl where
-  by_fault : (t : Bool) → is_some m.asked.fault ≡ t → next_request s past ≡ None
+end-none s past m c a e = by_fault (has_failed past) refl where
+  by_fault : (t : Bool) → has_failed past ≡ t → next_request s past ≡ None
   by_fault true h = failed-none s past m c h
   by_fault false h = end-due s past m c a h ∙ ap (λ (t : Bool). cond t (Some (end_request (m.asked.sent + 1) m.offset)) None) e
 
-pub end-some : (s : Setup) (past : List ClientEvent) (m : PutRequests) → RequestsStand s past m → AllSent past → is_some m.asked.fault ≡ false → is_over past ≡ true
+pub end-some : (s : Setup) (past : List ClientEvent) (m : PutRequests) → RequestsStand s past m → AllSent past → has_failed past ≡ false → is_over past ≡ true
     → next_request s past ≡ Some (end_request (m.asked.sent + 1) m.offset)
 end-some s past m c a h e = end-due s past m c a h ∙ ap (λ (t : Bool). cond t (Some (end_request (m.asked.sent + 1) m.offset)) None) e
 

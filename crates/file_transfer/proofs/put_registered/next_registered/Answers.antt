@@ -117,17 +117,17 @@ returns-clause-due c = λ w past s.
     c.page_after-first.ensures.at w past s.groups ∙ ap (λ (k : ℕ). k % w * 16) (c.from.ensures ∙ c.sent.ensures ∙ s.requests.asked.sent) in
     let found : descriptors_for c.page_after-first.result (pages_of n.group) past ≡ Some (pages_named c.in-Some-2.pages) =
     sym (c.in_ok-pages.ensures w past (pages_of n.group) s.groups.slots (sym (c.pages_in-count.ensures n.group n.size_is))) ∙ ap (option_map pages_named) c.in-Some-2.is in
-    let due : next_request (over w) past ≡ Some (registered_write (q.sent + 1) q.offset n.group (pages_named c.in-Some-2.pages)) =
+    let due : next_request (over w) past ≡ Some (registered_write (q.asked.sent + 1) q.offset n.group (pages_named c.in-Some-2.pages)) =
     pages-due w c.page_after-first.result c.in-Some.size past q (drop 1 c.args.groups.now.waiting.items) n s.requests going first_is
-    ∙ ap (option_map (registered_write (q.sent + 1) q.offset n.group)) found in
-    let written : c.in_ok-message.message ≡ request_bytes (registered_write (q.sent + 1) q.offset n.group (map descriptor_in ps)) =
+    ∙ ap (option_map (registered_write (q.asked.sent + 1) q.offset n.group)) found in
+    let written : c.in_ok-message.message ≡ request_bytes (registered_write (q.asked.sent + 1) q.offset n.group (map descriptor_in ps)) =
     c.in_ok-message.ensures
     ∙ ap (λ (xs : List LoadedPage). header_bytes 1 1 (c.sent-2.result + 1) c.offset.result c.in-Some.size (length xs) ++ flat_map descriptor_bytes (map descriptor_in xs)) c.as_slice.ensures.value
     ∙ ap (λ (k : ℕ). header_bytes 1 1 (k + 1) c.offset.result c.in-Some.size (length ps) ++ flat_map descriptor_bytes (map descriptor_in ps)) c.sent-2.ensures
-    ∙ ap (λ (k : ℕ). header_bytes 1 1 (q.sent + 1) k c.in-Some.size (length ps) ++ flat_map descriptor_bytes (map descriptor_in ps)) c.offset.ensures
-    ∙ ap (λ (k : ℕ). header_bytes 1 1 (q.sent + 1) q.offset k (length ps) ++ flat_map descriptor_bytes (map descriptor_in ps)) n.size_is
-    ∙ ap (λ (k : ℕ). header_bytes 1 1 (q.sent + 1) q.offset (length n.group) k ++ flat_map descriptor_bytes (map descriptor_in ps)) (sym (length-pages ps))
-    ∙ write-bytes (q.sent + 1) q.offset n.group (map descriptor_in ps) in
+    ∙ ap (λ (k : ℕ). header_bytes 1 1 (q.asked.sent + 1) k c.in-Some.size (length ps) ++ flat_map descriptor_bytes (map descriptor_in ps)) c.offset.ensures
+    ∙ ap (λ (k : ℕ). header_bytes 1 1 (q.asked.sent + 1) q.offset k (length ps) ++ flat_map descriptor_bytes (map descriptor_in ps)) n.size_is
+    ∙ ap (λ (k : ℕ). header_bytes 1 1 (q.asked.sent + 1) q.offset (length n.group) k ++ flat_map descriptor_bytes (map descriptor_in ps)) (sym (length-pages ps))
+    ∙ write-bytes (q.asked.sent + 1) q.offset n.group (map descriptor_in ps) in
     ap Some written ∙ ap (option_map request_bytes) (sym due)
 
 pub returns-clause-after : goal.returns-clause-after
@@ -140,17 +140,17 @@ returns-clause-after c = λ w past s.
     c.page_after-first.ensures.at w past s.groups ∙ ap (λ (k : ℕ). k % w * 16) (c.from.ensures ∙ c.sent.ensures ∙ s.requests.asked.sent) in
     let found : descriptors_for c.page_after-first.result (pages_of n.group) past ≡ Some (pages_named c.in-Some-2.pages) =
     sym (c.in_ok-pages.ensures w past (pages_of n.group) s.groups.slots (sym count)) ∙ ap (option_map pages_named) c.in-Some-2.is in
-    let r : Request = registered_write (q.sent + 1) q.offset n.group (pages_named c.in-Some-2.pages) in
+    let r : Request = registered_write (q.asked.sent + 1) q.offset n.group (pages_named c.in-Some-2.pages) in
     let due : next_request (over w) past ≡ Some r =
     pages-due w c.page_after-first.result c.in-Some.size past q (drop 1 c.args.groups.now.waiting.items) n s.requests going first_is
-    ∙ ap (option_map (registered_write (q.sent + 1) q.offset n.group)) found in
+    ∙ ap (option_map (registered_write (q.asked.sent + 1) q.offset n.group)) found in
     let kept : c.reserve-2.new.self.kept ≡ c.args.groups.now.jobs.kept + length (pages_named c.in-Some-2.pages) =
     omega (arith, c.in_ok-reserve-2.ensures.ok, count, descriptors-length c.page_after-first.result (pages_of n.group) past (pages_named c.in-Some-2.pages) found) in
     subst (λ (o : Option Request). RegisteredPutStands w (after_sending o past) c.ask.new.self (record { jobs = c.reserve-2.new.self; slots = c.name_pages.new.slots; under_way = c.args.groups.now.under_way; count = c.args.groups.now.count; waiting = c.pop_front.new.self })) (sym due)
     (record {
       requests = c.ask.ensures (over w) past r (c.reserve.ensures.same (over w) past s.requests) due
           (ap (λ (k : ℕ). record { asked = record { op = 1; channel = 1; id = k + 1; length = c.in-Some.size }; named = pages_named c.in-Some-2.pages }) c.sent-2.ensures
-          ∙ ap (λ (k : ℕ). record { asked = record { op = 1; channel = 1; id = q.sent + 1; length = k }; named = pages_named c.in-Some-2.pages }) n.size_is);
+          ∙ ap (λ (k : ℕ). record { asked = record { op = 1; channel = 1; id = q.asked.sent + 1; length = k }; named = pages_named c.in-Some-2.pages }) n.size_is);
       groups = stand-asked w c.page_after-first.result c.pages_in-count.result past c.args.groups.now _ r c.in-Some.size (drop 1 c.args.groups.now.waiting.items) n s.groups due (sym count) found
           (c.name_pages.ensures.named w past s.groups.slots) (c.reserve-2.ensures.same (jobs_due w past) past s.groups.due) kept c.pop_front.ensures.rest c.name_pages.ensures.pages refl refl refl;
     })
