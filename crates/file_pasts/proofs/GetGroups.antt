@@ -19,11 +19,11 @@ use Rattle.file_pasts.proofs.Lists.{take_one_more, get_in_front, front_of, prefi
 use Rattle.file_pasts.proofs.GetLaw.{RunCase, run_case, told-length}
 
 -- what the first n READs bring, the k-th the bytes from its place on
-brought : List ℕ → ℕ → ℕ → List (List ℕ)
+unfoldable pub brought : List ℕ → ℕ → ℕ → List (List ℕ)
 brought bytes k zero = []
 brought bytes k (suc n) = some_bytes (take 65536 (drop (65536 * k) bytes)) ++ brought bytes (k + 1) n
 
-brought-more : (bytes : List ℕ) (k n : ℕ) → brought bytes k n ++ some_bytes (take 65536 (drop (65536 * (k + n)) bytes)) ≡ brought bytes k (suc n)
+pub brought-more : (bytes : List ℕ) (k n : ℕ) → brought bytes k n ++ some_bytes (take 65536 (drop (65536 * (k + n)) bytes)) ≡ brought bytes k (suc n)
 unfolding brought
 brought-more bytes k zero = ap (λ (x : ℕ). some_bytes (take 65536 (drop (65536 * x) bytes))) (let z : k + 0 ≡ k = omega arith in z) ∙ sym (append-nil (some_bytes (take 65536 (drop (65536 * k) bytes))))
 brought-more bytes k (suc n) =
@@ -41,7 +41,7 @@ taken_some n [] h = absurd (omega arith)
 taken_some n (x ∷ xs) h = refl
 
 -- they are the parts of the bytes from that place on
-front-of-parts : (bytes : List ℕ) (k n m : ℕ) → m ≡ (length bytes - 65536 * k + 65535) / 65536 → IsPrefix (brought bytes k n) (parts_from m 65536 (drop (65536 * k) bytes))
+pub front-of-parts : (bytes : List ℕ) (k n m : ℕ) → m ≡ (length bytes - 65536 * k + 65535) / 65536 → IsPrefix (brought bytes k n) (parts_from m 65536 (drop (65536 * k) bytes))
 unfolding brought
 front-of-parts bytes k zero m e = (parts_from m 65536 (drop (65536 * k) bytes), refl)
 front-of-parts bytes k (suc n) zero e =

@@ -515,3 +515,41 @@ next_of_get channel bytes n r (inr x) =
       offset_is = ap (λ (q : Request). q.offset) x.1 ∙ sym all.0 ∙ ap (λ (k : ℕ). sum_of (counts_to bytes 1 k)) (sym same) ∙ sym (counted_reads channel bytes 1 n)
           ∙ ap (λ (rs : List Request). counted (map (reply_to bytes) rs)) (sym front) ∙ ap counted (sym (take_mapped bytes n (get_requests channel bytes)));
     }
+
+-- ---- what is known of a get over registered pages while no reply was refused
+
+last-is : (bytes : List ℕ) (m : ℕ) → 1 ≤ m → last_count (counts_to bytes 1 m) ≡ length (take 65536 (drop (65536 * (m - 1)) bytes))
+unfolding got
+last-is bytes zero h = absurd (omega (arith, h))
+last-is bytes (suc j) h =
+    ap last_count (sym (counts-more bytes 1 j)) ∙ last-append (counts_to bytes 1 j) (got bytes (1 + j))
+    ∙ ap (λ (x : ℕ). length (take 65536 (drop (65536 * x) bytes))) (let z : 1 + j - 1 ≡ suc j - 1 = omega arith in z)
+
+pub record Fares (bytes : List ℕ) (past : List ClientEvent) : Type 0 where
+  pub few : length (replies_in past) ≤ length (requests_sent past)
+  pub waiting : (answers past).unanswered ≡ drop (length (replies_in past)) (requests_sent past)
+  pub front : requests_sent past ≡ take (length (requests_sent past)) (get_requests channels.V1 bytes)
+  pub last : 1 ≤ length (replies_in past) → length (replies_in past) ≤ reads_count bytes
+      → last_count (counts_taken past) ≡ length (take 65536 (drop (65536 * (length (replies_in past) - 1)) bytes))
+  pub goes : length (replies_in past) < reads_count bytes → goes_on past ≡ true
+  pub stops : length (replies_in past) ≡ reads_count bytes → goes_on past ≡ false
+
+pub fares : (bytes : List ℕ) (past : List ClientEvent) → IsCopyable bytes → IsGet channels.V1 past → HasPoolTokens past → IsAnswered channels.V1 bytes past → (answers past).fault ≡ None
+    → Fares bytes past
+fares bytes past few p k r none =
+    let g = gets channels.V1 bytes past few p (registered-named past p k) r in
+    let f : Fine bytes past = g.fine none in
+    record {
+      few = f.few;
+      waiting = f.waiting;
+      front = g.front;
+      last = λ some within. ap last_count (f.counts within) ∙ last-is bytes (length (replies_in past)) some;
+      goes = λ h. is_whole (last_count (counts_taken past)) (ap last_count (f.counts (omega (arith, h))) ∙ (whole-so-far bytes (length (replies_in past)) (omega (arith, h))).1);
+      stops = λ h. is_short (last_count (counts_taken past)) (let a = (all-counted bytes).1 in omega (arith, a, ap last_count (f.counts (omega (arith, h)) ∙ ap (counts_to bytes 1) h)));
+    }
+  where
+    is_whole : (x : ℕ) → x ≡ 65536 → (x == 65536) ≡ true
+    is_whole x h = grind (arith, nat_tests)
+
+    is_short : (x : ℕ) → x < 65536 → (x == 65536) ≡ false
+    is_short x h = grind (arith, nat_tests)

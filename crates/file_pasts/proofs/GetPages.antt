@@ -33,7 +33,7 @@ next_in_rest (x ∷ xs) rest work e = next_in_rest xs rest work e
 more_due : (given due more : List Work) → IsPrefix given due → IsPrefix given (due ++ more)
 more_due given due more p = (p.0 ++ more, sym (append_assoc given p.0 more) ∙ ap (λ (t : List Work). t ++ more) p.1)
 
-given_front : (past : List ClientEvent) → IsGet channels.V1 past → IsPrefix (jobs_given past) (jobs_due past)
+pub given_front : (past : List ClientEvent) → IsGet channels.V1 past → IsPrefix (jobs_given past) (jobs_due past)
 given_front [] p = (page_loads 16 0, refl)
 given_front (Group b ∷ past) p = absurd p.0
 given_front (End ∷ past) p = absurd p.0

@@ -100,7 +100,7 @@ at-gone low high n (job ∷ later) s = by_test (job.number == n) refl (at-gone (
   by_test true h ih = none_before (job.number + 1) high n later s.1 (let e = equal job.number n h in omega (arith, e))
   by_test false h ih = ap (λ (t : Bool). cond t (Some job.work) (job_at n (without_job n later))) h ∙ ih
 
-length-without : (n : ℕ) (jobs : List Job) (work : Work) → job_at n jobs ≡ Some work → length (without_job n jobs) + 1 ≡ length jobs
+pub length-without : (n : ℕ) (jobs : List Job) (work : Work) → job_at n jobs ≡ Some work → length (without_job n jobs) + 1 ≡ length jobs
 length-without n [] work e = absurd (let b : ⊥ = cc in b)
 length-without n (job ∷ later) work e = by_test (job.number == n) e (length-without n later work) where
   by_test : (t : Bool) → cond t (Some job.work) (job_at n later) ≡ Some work → (job_at n later ≡ Some work → length (without_job n later) + 1 ≡ length later)

@@ -16,4 +16,5 @@ pub mod GetLaw
 pub mod ServerAccepts
 pub mod GetPages
 pub mod GetPagesBack
+pub mod GetRounds
 pub mod GetGroups

@@ -11,6 +11,7 @@ pub mod ServerLaws
 pub mod ServerAccepts
 pub mod GetLaws
 pub mod GetPagesBack
+pub mod GetReceives
 pub mod WorkedPuts
 pub mod WorkedPages
 pub mod WorkedServers

@@ -2,6 +2,7 @@
 
 ghost use Rattle.file_pasts.specs.GetLaws.{GetsAsk, RegisteredGetsAsk, JobsAreOfAGet, LoadsOwnRounds, GetUnloadsFollow, GetsReceive};
 ghost use Rattle.file_pasts.specs.GetPagesBack.{JobsAreCounted, PagesComeBack};
+ghost use Rattle.file_pasts.specs.GetReceives.{RegisteredGetsReceive};
 
 /// A get asks for its bytes in order: where the replies that were handed in are a front of those of a copy, what it sent is a
 /// front of the READs of that copy and its END. Over registered pages this holds where the pool gives each load of a page the
@@ -20,10 +21,12 @@ pub fn rounds_load_and_unload()
     ensures unloads { GetUnloadsFollow }
 {}
 
-/// Without registered pages the groups that come of a get are a front of those of the bytes, where the replies that were
-/// handed in are a front of those of a copy.
+/// The groups that come of a get are a front of those of the bytes, where the replies that were handed in are a front of those
+/// of a copy. Over registered pages each Unload has to bring what the server placed in its page, and zeros after it; and the pool
+/// has to give each load of a page the generation after that of the load before.
 pub fn gets_receive_what_was_read()
-    ensures { GetsReceive }
+    ensures inline { GetsReceive }
+    ensures registered { RegisteredGetsReceive }
 {}
 
 /// Each job of a get that was given is open or was completed once. Where all are completed, the bytes that the client puts
