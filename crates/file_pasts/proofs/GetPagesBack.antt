@@ -257,7 +257,6 @@ pages_back_of channel content past count n p h all within =
     let b = back channel content past p h in
     in_a_row content past count n b (nothing_left (open_jobs past) (let c = b.counts in omega (arith, c, all))) within
 
--- any bytes serve where none are asked for
 pub jobs_counted : JobsAreCounted
 jobs_counted channel past p = counted past p where
   counted : (past : List ClientEvent) → IsGet channel past → jobs_completed past + length (open_jobs past) ≡ length (jobs_given past)

@@ -1,23 +1,20 @@
 -- The groups that come of a get over registered pages are those of the bytes, round by round.
-use Rattle.std.proofs.Common.{◌≡◌, ◌⊎◌, inl, inr, ℕ, zero, suc, ◌+◌, ◌-◌, ◌*◌, ◌/◌, ◌%◌, ◌<◌, ◌≤◌, ◌==◌, nat_lt, nat_le, not, ◌&&◌, ◌||◌, Bool, true, false, cond, Option, Some, None, List, [], ◌∷◌, ◌++◌, length, take, drop, refl, sym, ap, ◌∙◌, subst, add-one, length-append, arith}
+use Rattle.std.proofs.Common.{◌≡◌, ◌⊎◌, inl, inr, ℕ, zero, suc, ◌+◌, ◌-◌, ◌*◌, ◌/◌, ◌%◌, ◌<◌, ◌≤◌, ◌==◌, nat_lt, nat_le, not, ◌&&◌, ◌||◌, Bool, true, false, cond, Option, Some, None, List, [], ◌∷◌, ◌++◌, length, take, drop, refl, sym, ap, ◌∙◌, add-one, length-append, arith}
 use Rattle.std.specs.Prelude.{slice_get, replicate, is_some}
 use Rattle.std.specs.List.{flat_map}
 use mathlib.Core.List.{IsPrefix}
 use Rattle.std.proofs.lemmas.Bool.Decides.{nat_tests}
 use Rattle.std.proofs.lemmas.List.{append-nil, length-drop, drop-drop}
-use Rattle.smbd_base.specs.Tokens.{PageToken}
-use Rattle.buffer_descriptor.specs.declared.descriptor.Descriptor.{Descriptor}
 use Rattle.file_messages.specs.declared.kind.Channel.TheVariants as channels
 use Rattle.file_messages.specs.declared.fault.ReplyFault.{ReplyFault}
 use Rattle.file_messages.specs.declared.message.Request.{Request}
-use Rattle.file_messages.specs.declared.job.Job.{Job}
 use Rattle.file_messages.specs.declared.job.Work.{Work}
 use Rattle.file_messages.specs.declared.job.Completion.{Completion}
 use Rattle.file_messages.specs.Runs.{groups_of, get_requests, reads_count, read_descriptors, end_request}
 use Rattle.file_messages.specs.Written.{IsCopyable}
 use Rattle.file_pasts.specs.ClientPast.{ClientEvent, Group, End, Sent, Replied, Gave, Completed, Received, requests_sent, jobs_given, open_jobs, lasting_or, fault_for, reply_fault, replied, answers, Answers, has_failed, are_answered, AnswersJob}
 use Rattle.file_pasts.specs.PutDue.{if_taken, unloads_of, unloads_of_first}
-use Rattle.file_pasts.specs.GetDue.{sent, counts_taken, sum_of, last_count, goes_on, jobs_completed, page_loads, jobs_due, some_bytes, pages_back, groups_came, groups_received, has_ended, is_between_rounds, read_due, next_request, next_group, IsGet}
+use Rattle.file_pasts.specs.GetDue.{sent, counts_taken, sum_of, last_count, goes_on, jobs_completed, page_loads, jobs_due, some_bytes, pages_back, groups_came, groups_received, has_ended, read_due, next_request, next_group, IsGet}
 use Rattle.file_pasts.specs.PutTokens.{HasPoolTokens}
 use Rattle.file_pasts.specs.GetLaws.{replies_in, IsAnswered, groups_taken}
 use Rattle.file_pasts.specs.GetPagesBack.{brought_by, UnloadsBring}
@@ -84,9 +81,6 @@ took_front zero xs ys h = refl
 took_front (suc n) [] ys h = absurd (omega (arith, h))
 took_front (suc n) (x ∷ xs) ys h = ap (λ (t : List ℕ). x ∷ t) (took_front n xs ys (omega (arith, h)))
 
-took_whole : (n : ℕ) (xs : List ℕ) → length xs ≤ n → take n xs ≡ xs
-took_whole n xs h = front_whole n xs h
-
 length_took : (n : ℕ) (xs : List ℕ) → n ≤ length xs → length (take n xs) ≡ n
 length_took zero xs h = refl
 length_took (suc n) [] h = absurd (omega (arith, h))
@@ -125,7 +119,7 @@ front_held bytes k (suc count) i = by_size (nat_le 4096 (length (drop (65536 * k
   by_size true t ih =
       let long : 4096 ≤ length here = grind (arith, nat_tests) in
       let size : length (take 4096 here) ≡ 4096 = length_took 4096 here long in
-      let page : page_with (take 4096 here) ≡ take 4096 here = took_front 4096 (take 4096 here) (replicate 4096 0) (omega (arith, size)) ∙ took_whole 4096 (take 4096 here) (omega (arith, size)) in
+      let page : page_with (take 4096 here) ≡ take 4096 here = took_front 4096 (take 4096 here) (replicate 4096 0) (omega (arith, size)) ∙ front_whole 4096 (take 4096 here) (omega (arith, size)) in
       let parts : take (4096 * suc count) here ≡ take 4096 here ++ take (4096 * count) (drop (65536 * k + 4096 * (i + 1)) bytes) = split ∙ ap (λ (xs : List ℕ). take 4096 here ++ take (4096 * count) xs) next in
       let sizes : length (take (4096 * suc count) here) ≡ 4096 + length (take (4096 * count) (drop (65536 * k + 4096 * (i + 1)) bytes)) =
       ap length parts ∙ length-append (take 4096 here) (take (4096 * count) (drop (65536 * k + 4096 * (i + 1)) bytes)) ∙ ap (λ (n : ℕ). n + length (take (4096 * count) (drop (65536 * k + 4096 * (i + 1)) bytes))) size in
@@ -135,8 +129,8 @@ front_held bytes k (suc count) i = by_size (nat_le 4096 (length (drop (65536 * k
       ∙ ap (λ (xs : List ℕ). take 4096 here ++ xs) ih ∙ sym parts
   by_size false t ih =
       let short : length here < 4096 = grind (arith, nat_tests) in
-      let whole : take (4096 * suc count) here ≡ here = took_whole (4096 * suc count) here (omega (arith, short)) in
-      let part : take 4096 here ≡ here = took_whole 4096 here (omega (arith, short)) in
+      let whole : take (4096 * suc count) here ≡ here = front_whole (4096 * suc count) here (omega (arith, short)) in
+      let part : take 4096 here ≡ here = front_whole 4096 here (omega (arith, short)) in
       let page : page_with (take 4096 here) ≡ page_with here = ap page_with part in
       ap (λ (xs : List ℕ). take (length xs) (page_with (take 4096 here) ++ held bytes k count (i + 1))) whole
       ∙ ap (λ (xs : List ℕ). take (length here) (xs ++ held bytes k count (i + 1))) page
@@ -157,7 +151,7 @@ front_held bytes k (suc count) i = by_size (nat_le 4096 (length (drop (65536 * k
       took_twice (suc n) (suc m) (x ∷ xs) h = ap (λ (t : List ℕ). x ∷ t) (took_twice n m xs (omega (arith, h)))
 
       front_of_page : (xs : List ℕ) → length xs < 4096 → take (length xs) (page_with xs) ≡ xs
-      front_of_page xs h = took_twice (length xs) 4096 (xs ++ replicate 4096 0) (omega (arith, h)) ∙ took_front (length xs) xs (replicate 4096 0) (omega arith) ∙ took_whole (length xs) xs (omega arith)
+      front_of_page xs h = took_twice (length xs) 4096 (xs ++ replicate 4096 0) (omega (arith, h)) ∙ took_front (length xs) xs (replicate 4096 0) (omega arith) ∙ front_whole (length xs) xs (omega arith)
 
 -- ---- by induction on the past
 
@@ -233,8 +227,8 @@ rounds-sent bytes q past e f s = by_case s where
     after = w.after;
   })
 
-bounded : (content : PageToken → List ℕ) (past : List ClientEvent) → IsGet channels.V1 past → jobs_completed past ≤ length (jobs_due past)
-bounded content past p =
+bounded : (past : List ClientEvent) → IsGet channels.V1 past → jobs_completed past ≤ length (jobs_due past)
+bounded past p =
     let f = given_front past p in
     omega (arith, jobs_counted channels.V1 past p, ap length f.1, length-append (jobs_given past) f.0)
 
@@ -298,9 +292,6 @@ whole_replied bytes m past r w (inr x) less more added same =
 rounds-replied : (bytes : List ℕ) (m : List ℕ) (past : List ClientEvent) → IsGet channels.V1 past → reply_fault (answers past) m ≡ None → (answers past).fault ≡ None → Fares bytes past
     → Begun bytes past ⊎ Whole bytes past → Begun bytes (Replied m ∷ past) ⊎ Whole bytes (Replied m ∷ past)
 rounds-replied bytes m past p e none f s = by_open (answers past).unanswered refl where
-  j : ℕ
-  j = length (replies_in past)
-
   more : length (replies_in past ++ m ∷ []) ≡ suc (length (replies_in past))
   more = length-append (replies_in past) (m ∷ []) ∙ add-one (length (replies_in past))
 
@@ -309,7 +300,7 @@ rounds-replied bytes m past p e none f s = by_open (answers past).unanswered ref
   fault_found (Some x) found h = absurd (let b : ⊥ = cc in b)
 
   few_jobs : jobs_completed past ≤ length (jobs_due past)
-  few_jobs = bounded (λ t. []) past p
+  few_jobs = bounded past p
 
   came_same : groups_came channels.V1 past ++ [] ≡ groups_came channels.V1 past
   came_same = append-nil (groups_came channels.V1 past)
