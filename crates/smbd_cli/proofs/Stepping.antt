@@ -1,6 +1,5 @@
 -- What the steps of a world do to its ends.
 use Rattle.std.proofs.Common.{◌≡◌, ℕ, Bool, true, false, not, ◌||◌, ◌&&◌, cond, List, [], ◌∷◌, ◌++◌, length, drop, Option, Some, None, option_to_list, refl, sym, ap, ◌∙◌, subst}
-use Rattle.std.specs.List.{slice_get}
 use Rattle.std.proofs.lemmas.List.{drop_at}
 use Rattle.smbd_base.specs.declared.end_id.EndId.{EndId}
 use Rattle.smbd_base.specs.declared.end_id.EndId.TheVariants.{Client, Server}
@@ -22,6 +21,7 @@ use Rattle.connection_core.specs.Shown.{Shown}
 use Rattle.world_core.specs.declared.choice.Choice.{Choice}
 use Rattle.world_core.specs.declared.choice.Choice.TheVariants as choices
 use Rattle.world_core.specs.Choices.{end_of, cuts_link}
+use Rattle.world_core.specs.Newest.{newest_brought}
 use Rattle.world_core.specs.Run.{State, past_of, limits_of, frames_in_flight, event_chosen, state_after, step_of}
 use Rattle.smbd_cli.specs.Carried.{is_emit, with_past, CanTake, HasCarried}
 use Rattle.smbd_cli.specs.Ends.{shown_of}
@@ -100,11 +100,6 @@ emit_of (due.Emit f) e = (f, refl)
 emit_of due.Close e = absurd cc
 emit_of due.Idle e = absurd cc
 
-next_of_list : {A : Type 0} (xs : List A) (o : Option A) → slice_get (xs ++ option_to_list o) (length xs) ≡ o
-next_of_list [] None = refl
-next_of_list [] (Some x) = refl
-next_of_list (y ∷ xs) o = next_of_list xs o
-
 -- what the three steps of a frame leave
 pub record HasGone (from to : EndId) (old new : State) (message : Option (List ℕ)) : Type 0 where
   pub carried : HasCarried (shown_of from old) (shown_of to old) (shown_of from new) (shown_of to new) message
@@ -115,7 +110,7 @@ gone_to : (to : EndId) (w sent taken posted : State) (message : Option (List ℕ
     → is_emit (next_event (peer_of to) (limits_of (peer_of to) w) (past_of (peer_of to) w)) ≡ true
     → ((f : List ℕ) → next_event (peer_of to) (limits_of (peer_of to) w) (past_of (peer_of to) w) ≡ due.Emit f → CanTake (shown_of to w) f)
     → sent ≡ step_of w (choices.Drive (peer_of to)) → taken ≡ step_of sent (choices.Carry to) → posted ≡ step_of taken (choices.Drive to)
-    → message ≡ slice_get (messages_delivered to (limits_of to taken) (past_of to taken)) (length (messages_delivered to (limits_of to w) (past_of to w)))
+    → message ≡ newest_brought to (limits_of to taken) (past_of to taken)
     → HasGone (peer_of to) to w posted message
 gone_to to w sent taken posted message link arrived emits_one lands sent_is taken_is posted_is message_is =
     let from = peer_of to in
@@ -137,9 +132,7 @@ gone_to to w sent taken posted message link arrived emits_one lands sent_is take
     let c = stepped to taken posted (choices.Drive to) (Post 1) refl refl posted_is (posts_one to taken 1 post) in
     let brings = message_brought to (limits_of to w) (past_of to w) f in
     let before = messages_delivered to (limits_of to w) (past_of to w) in
-    let grown : messages_delivered to (limits_of to taken) (past_of to taken) ≡ before ++ option_to_list brings =
-    ap (λ (e : Shown). messages_delivered e.side e.limits e.past) to_taken ∙ delivered-take to (limits_of to w) (past_of to w) f in
-    let message_so : message ≡ brings = message_is ∙ ap (λ (ms : List (List ℕ)). slice_get ms (length before)) grown ∙ next_of_list before brings in
+    let message_so : message ≡ brings = message_is ∙ ap (λ (e : Shown). newest_brought e.side e.limits e.past) to_taken in
     record {
       carried = record {
         frame = f;
@@ -155,7 +148,7 @@ pub gone : (from to : EndId) (w sent taken posted : State) (message : Option (Li
     → is_emit (next_event from (limits_of from w) (past_of from w)) ≡ true
     → ((f : List ℕ) → next_event from (limits_of from w) (past_of from w) ≡ due.Emit f → CanTake (shown_of to w) f)
     → sent ≡ step_of w (choices.Drive from) → taken ≡ step_of sent (choices.Carry to) → posted ≡ step_of taken (choices.Drive to)
-    → message ≡ slice_get (messages_delivered to (limits_of to taken) (past_of to taken)) (length (messages_delivered to (limits_of to w) (past_of to w)))
+    → message ≡ newest_brought to (limits_of to taken) (past_of to taken)
     → HasGone from to w posted message
 gone Client Client w sent taken posted message sides link arrived emits_one lands sent_is taken_is posted_is message_is = absurd (let b : ⊥ = cc in b)
 gone Client Server w sent taken posted message sides link arrived emits_one lands sent_is taken_is posted_is message_is =

@@ -1,14 +1,14 @@
 //! Messages that go over between the two ends of a world.
 
-ghost use Rattle.std.specs.Prelude.{◌≡◌, ◌∷◌, false, true, None, ℕ, List, slice_get, IfOk, OnOk};
+ghost use Rattle.std.specs.Prelude.{◌≡◌, ◌∷◌, false, true, None, ℕ, List, IfOk, OnOk};
 ghost use Rattle.smbd_base.specs.declared.event.Event.TheVariants as events;
 ghost use Rattle.smbd_base.specs.declared.next.Next.TheVariants as due;
-ghost use Rattle.smbd_base.specs.Delivery.{messages_delivered};
 ghost use Rattle.smbd_base.specs.History as spec;
 ghost use Rattle.smbd_base.specs.Joint.{emitted_frames, taken_frames};
 ghost use Rattle.smbd_base.specs.declared.end_id.EndId.TheVariants as side;
 ghost use Rattle.smbd_base.specs.Counts.{peer_of};
 ghost use Rattle.smbd_base.specs.Limits.{usual_limits};
+ghost use Rattle.world_core.specs.Newest.{newest_brought};
 ghost use Rattle.world_core.specs.Run.{past_of, limits_of};
 ghost use Rattle.smbd_cli.specs.Carried.{is_emit, opened, agreed_client, agreed_server, with_past, CanTake, HasCarried};
 ghost use Rattle.smbd_cli.specs.Ends.{shown_of, client_of, server_of};
@@ -17,19 +17,19 @@ ghost use Rattle.smbd_cli.specs.Settled.{CanSend, HasSentOne};
 use smbd_base::{EndId, Message, NoMemory};
 use world_core::{Choice, World};
 
-/// The message of this number, from 0, that an end has delivered, where it has delivered so many.
-fn delivered_at(world: &World, end: EndId, number: usize) -> Result<Option<Message>, NoMemory>
-    ensures { IfOk result (λ m. m ≡ slice_get (messages_delivered end (limits_of end world.now) (past_of end world.now)) number) }
+/// The message that the newest event of an end has delivered, where it has.
+fn newest(world: &World, end: EndId) -> Result<Option<Message>, NoMemory>
+    ensures { IfOk result (λ m. m ≡ newest_brought end (limits_of end world.now) (past_of end world.now)) }
 {
-    match world.delivered(end).get(number) {
+    match world.newest_delivered(end) {
         Some(message) => Ok(Some(message.clone()?)),
         None => Ok(None),
     }
 }
 
-/// Carries the frame that one end is due to send to the other, which takes it and posts its receive anew. Gives the
+/// Passes the frame that one end is due to send to the other, which takes it and posts its receive anew. Gives the
 /// message that the frame ends.
-fn carry(world: &mut World, from: EndId, to: EndId) -> Result<Option<Message>, NoMemory>
+fn pass_frame(world: &mut World, from: EndId, to: EndId) -> Result<Option<Message>, NoMemory>
     requires sides { peer_of to ≡ from }
     requires link { world.old.link_cut ≡ false }
     requires arrived { taken_frames (past_of to world.old) ≡ emitted_frames (past_of from world.old) }
@@ -38,10 +38,9 @@ fn carry(world: &mut World, from: EndId, to: EndId) -> Result<Option<Message>, N
     ensures carried { IfOk result (λ m. HasCarried (shown_of from world.old) (shown_of to world.old) (shown_of from world.new) (shown_of to world.new) m) }
     ensures link { OnOk result (world.new.link_cut ≡ false) }
 {
-    let before = world.delivered(to).len();
     world.step(&Choice::Drive(from))?;
     world.step(&Choice::Carry(to))?;
-    let message = delivered_at(world, to, before)?;
+    let message = newest(world, to)?;
     world.step(&Choice::Drive(to))?;
     Ok(message)
 }
@@ -66,8 +65,8 @@ pub fn negotiate(world: &mut World) -> Result<(), NoMemory>
     ensures server { OnOk result (server_of world.new ≡ with_past (server_of world.old) agreed_server) }
     ensures link { OnOk result (world.new.link_cut ≡ false) }
 {
-    carry(world, EndId::Client, EndId::Server)?;
-    carry(world, EndId::Server, EndId::Client)?;
+    pass_frame(world, EndId::Client, EndId::Server)?;
+    pass_frame(world, EndId::Server, EndId::Client)?;
     Ok(())
 }
 
@@ -84,7 +83,7 @@ pub fn send(world: &mut World, from: EndId, to: EndId) -> Result<Message, NoMemo
     ensures link { OnOk result (world.new.link_cut ≡ false) }
 {
     loop {
-        if let Some(message) = carry(world, from, to)? {
+        if let Some(message) = pass_frame(world, from, to)? {
             return Ok(message);
         }
     }

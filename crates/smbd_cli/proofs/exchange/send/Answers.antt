@@ -9,14 +9,14 @@ loop-message-init c = record {
   link = c.requires.link;
 }
 
-pub carry-requires-clause-arrived : goal.carry-requires-clause-arrived
-carry-requires-clause-arrived c = has_all _ _ _ _ c.loop-message.invariant.course
+pub pass_frame-requires-clause-arrived : goal.pass_frame-requires-clause-arrived
+pass_frame-requires-clause-arrived c = has_all _ _ _ _ c.loop-message.invariant.course
 
-pub carry-requires-clause-due : goal.carry-requires-clause-due
-carry-requires-clause-due c = emits_next _ _ _ _ c.loop-message.invariant.course
+pub pass_frame-requires-clause-due : goal.pass_frame-requires-clause-due
+pass_frame-requires-clause-due c = emits_next _ _ _ _ c.loop-message.invariant.course
 
-pub carry-requires-clause-lands : goal.carry-requires-clause-lands
-carry-requires-clause-lands c = lands_next _ _ _ _ c.loop-message.invariant.course
+pub pass_frame-requires-clause-lands : goal.pass_frame-requires-clause-lands
+pass_frame-requires-clause-lands c = lands_next _ _ _ _ c.loop-message.invariant.course
 
 pub returns-in-Some-clause-from : goal.returns-in-Some-clause-from
 returns-in-Some-clause-from c = from_end _ _ _ _ _ _ _ c.loop-message.invariant.course c.in_ok-message.ensures.carried
