@@ -1,5 +1,5 @@
 -- The pages of a get, round by round.
-use Rattle.std.proofs.Common.{◌≡◌, ◌⊎◌, inl, inr, ℕ, zero, suc, ◌+◌, ◌-◌, ◌*◌, ◌/◌, ◌%◌, ◌<◌, ◌≤◌, ◌==◌, nat_lt, not, ◌&&◌, Bool, true, false, cond, Option, Some, None, List, [], ◌∷◌, ◌++◌, length, drop, map, replicate, refl, sym, ap, ◌∙◌, subst, add-one, length-append, arith}
+use Rattle.std.proofs.Common.{◌≡◌, inl, inr, ℕ, zero, suc, ◌+◌, ◌-◌, ◌*◌, ◌%◌, ◌<◌, ◌≤◌, ◌==◌, nat_lt, not, ◌&&◌, Bool, true, false, cond, Option, Some, None, List, [], ◌∷◌, ◌++◌, length, map, replicate, refl, sym, ap, ◌∙◌, subst, add-one, length-append, arith}
 use Rattle.std.specs.Prelude.{slice_get, slice_set}
 use Rattle.std.specs.List.{flat_map}
 use Rattle.std.proofs.lemmas.Bool.Decides.{nat_tests}
@@ -7,24 +7,22 @@ use Rattle.std.proofs.lemmas.List.{append-nil}
 use Rattle.smbd_base.specs.declared.right.Right.TheVariants as right
 use Rattle.buffer_descriptor.specs.declared.descriptor.Descriptor.{Descriptor}
 use Rattle.file_messages.specs.declared.kind.Channel.TheVariants as channels
-use Rattle.file_messages.specs.declared.message.Request.{Request}
 use Rattle.file_messages.specs.declared.job.Job.{Job}
 use Rattle.file_messages.specs.declared.job.Work.{Work}
 use Rattle.file_messages.specs.declared.job.Work.TheVariants.{Load, Fetch, Place, Unload}
 use Rattle.file_messages.specs.declared.job.Completion.{Completion}
 use Rattle.file_messages.specs.declared.job.WorkResult.{WorkResult}
 use Rattle.file_messages.specs.declared.job.WorkResult.TheVariants.{Loaded, Fetched, Placed, Unloaded, Refused}
-use Rattle.file_pasts.specs.ClientPast.{ClientEvent, Group, End, Sent, Replied, Gave, Completed, Received, requests_sent, jobs_given, open_jobs, job_at, token_in, loaded_by, descriptors_on, answers, AnswersJob, IsOfKind}
-use Rattle.file_pasts.specs.PutDue.{in_front, unloads_of, unloads_of_first}
+use Rattle.file_pasts.specs.ClientPast.{ClientEvent, Group, End, Sent, Replied, Gave, Completed, Received, requests_sent, jobs_given, open_jobs, job_at, token_in, loaded_by, descriptors_on, AnswersJob, IsOfKind}
+use Rattle.file_pasts.specs.PutDue.{in_front}
 use Rattle.file_pasts.specs.GetDue.{sent, has_ended, jobs_completed, page_bytes, unloaded_by, pages_back, page_loads, jobs_due, descriptors_loaded, IsGet}
-use Rattle.file_pasts.specs.InStep.{is_load_on, one_if, count, count_open}
+use Rattle.file_pasts.specs.InStep.{is_load_on, count, count_open}
 use Rattle.file_pasts.proofs.Lists.{within, get_in_front}
 use Rattle.file_pasts.proofs.InStep.{count-append, counted}
 use Rattle.file_transfer.specs.declared.get_pages.Page.{Page}
-use Rattle.file_transfer.specs.ClientStands.{first_named}
 use Rattle.file_transfer.specs.GetStands.{awaits}
 use Rattle.file_transfer.specs.GetPagesStand.{loaded_in, back_in, same_bytes, sizes, unused_pages, loads_at, all_of, pages_from, first_unload}
-use Rattle.file_transfer.proofs.GetRounds.{OpenFrom, open-at, behind, at-loads, at-unloads, length-loads, length-unloads, IsLoading, IsReading, IsUnloading, IsOver, Stage, Round, at-most, length-due, given-within, rounds_of}
+use Rattle.file_transfer.proofs.GetRounds.{OpenFrom, open-at, behind, at-loads, at-unloads, length-unloads, Stage, Round, given-within, rounds_of}
 
 -- ---- lists of pages
 

@@ -11,20 +11,19 @@ use Rattle.file_messages.specs.declared.message.Request.{Request}
 use Rattle.file_messages.specs.declared.job.Job.{Job}
 use Rattle.file_messages.specs.declared.job.Work.{Work}
 use Rattle.file_messages.specs.declared.job.Completion.{Completion}
-use Rattle.file_messages.specs.Messages.{END}
-use Rattle.file_pasts.specs.ClientPast.{ClientEvent, Sent, Replied, Gave, Completed, Received, requests_sent, jobs_given, reply_fault, answers, has_failed, are_answered, descriptors_on, AnswersJob}
+use Rattle.file_pasts.specs.ClientPast.{ClientEvent, Sent, Replied, Gave, Completed, requests_sent, reply_fault, answers, are_answered, descriptors_on, AnswersJob}
 use Rattle.file_pasts.specs.PutDue.{if_taken, unloads_of, unloads_of_first}
-use Rattle.file_pasts.specs.GetDue.{sent, counts_taken, last_count, goes_on, has_ended, jobs_completed, page_loads, begins_round, jobs_due, descriptors_loaded, read_due, read_request, sum_of, is_between_rounds, some_bytes, unloaded_by, pages_back, groups_came, groups_received, next_request, next_job, IsGet}
+use Rattle.file_pasts.specs.GetDue.{sent, counts_taken, last_count, goes_on, has_ended, jobs_completed, page_loads, begins_round, jobs_due, is_between_rounds, some_bytes, unloaded_by, pages_back, groups_came, groups_received, IsGet}
 use Rattle.file_transfer.specs.declared.get_requests.GetRequests.{GetRequests}
 use Rattle.file_transfer.specs.declared.get_groups.GetGroups.{GetGroups}
 use Rattle.file_transfer.specs.declared.get_registered.GetRounds.{GetRounds}
 use Rattle.file_transfer.specs.ClientJobs.{JobsStand, after_giving}
 use Rattle.file_transfer.specs.ClientStands.{first_named}
-use Rattle.file_transfer.specs.GetStands.{GetStands, GroupsStand, HasRoom, awaits, may_ask}
-use Rattle.file_transfer.specs.GetPagesStand.{RoundsStand, loaded_in, back_in, same_bytes, sizes, unused_pages, loads_at, pages_from, first_unload}
+use Rattle.file_transfer.specs.GetStands.{GetStands, awaits, may_ask}
+use Rattle.file_transfer.specs.GetPagesStand.{RoundsStand, loaded_in, back_in, same_bytes, unused_pages, loads_at, pages_from, first_unload}
 use Rattle.file_transfer.specs.GetRegisteredStands.{RegisteredGetStands, are_back, loads_after}
-use Rattle.file_transfer.proofs.GetRounds.{IsLoading, IsReading, IsUnloading, IsOver, Stage, Round, at-most, length-due, given-within, length-loads, length-unloads, rounds_of}
-use Rattle.file_transfer.proofs.GetPagesLemmas.{no-loads, none-back, flat-back, sizes-short, under_way}
+use Rattle.file_transfer.proofs.GetRounds.{Stage, Round, at-most, length-due, given-within, length-loads, length-unloads, rounds_of}
+use Rattle.file_transfer.proofs.GetPagesLemmas.{no-loads, none-back, flat-back, under_way}
 use Rattle.file_transfer.proofs.GetRequestsLemmas.{may_parts}
 
 -- ---- the first round

@@ -1,12 +1,11 @@
 -- The requests of a get, and their replies.
-use Rattle.std.proofs.Common.{◌≡◌, ℕ, ◌+◌, ◌*◌, ◌<◌, ◌≤◌, ◌==◌, not, ◌&&◌, ◌||◌, Bool, true, false, cond, is_some, Option, Some, None, List, [], ◌∷◌, ◌++◌, length, map, refl, sym, ap, ◌∙◌, subst, arith}
+use Rattle.std.proofs.Common.{◌≡◌, ℕ, ◌+◌, ◌*◌, ◌≤◌, ◌==◌, not, ◌&&◌, ◌||◌, Bool, true, false, cond, Option, Some, None, List, [], ◌∷◌, ◌++◌, length, map, refl, sym, ap, ◌∙◌, subst, arith}
 use Rattle.std.specs.Prelude.{option_map}
 use Rattle.std.specs.List.{flat_map}
 use Rattle.std.specs.declared.vec.Vec.{Vec}
 use Rattle.std.specs.declared.alloc.Global.{Global}
 use Rattle.std.proofs.lemmas.List.{append-nil}
 use Rattle.smbd_base.specs.Fields.{u32_at}
-use Rattle.buffer_descriptor.specs.declared.descriptor.Descriptor.{Descriptor}
 use Rattle.buffer_descriptor.specs.Descriptors.{descriptor_bytes}
 use Rattle.file_messages.specs.declared.kind.Channel.{Channel}
 use Rattle.file_messages.specs.declared.kind.Channel.TheVariants as channels
@@ -16,11 +15,10 @@ use Rattle.file_messages.specs.declared.job.Job.{Job}
 use Rattle.file_messages.specs.declared.job.Work.{Work}
 use Rattle.file_messages.specs.Messages.{END, header_bytes, request_bytes}
 use Rattle.file_messages.specs.Runs.{end_request}
-use Rattle.file_pasts.specs.ClientPast.{ClientEvent, Sent, Replied, Gave, Received, requests_sent, jobs_given, reply_fault, answers, has_failed, are_answered}
+use Rattle.file_pasts.specs.ClientPast.{ClientEvent, Sent, Replied, requests_sent, jobs_given, reply_fault, answers, has_failed, are_answered}
 use Rattle.file_pasts.specs.PutDue.{numbered}
-use Rattle.file_pasts.specs.GetDue.{counts_taken, sum_of, sent, last_count, goes_on, has_ended, is_between_rounds, descriptors_loaded, read_request, read_due, next_request, next_job, next_group, is_finished}
+use Rattle.file_pasts.specs.GetDue.{counts_taken, sum_of, sent, last_count, goes_on, has_ended, is_between_rounds, descriptors_loaded, read_request, read_due, next_request, next_job, next_group}
 use Rattle.file_transfer.specs.declared.loaded_page.LoadedPage.{LoadedPage}
-use Rattle.file_transfer.specs.declared.client_requests.ClientRequests.{ClientRequests}
 use Rattle.file_transfer.specs.declared.get_requests.GetRequests.{GetRequests}
 use Rattle.file_transfer.specs.ClientJobs.{after_giving}
 use Rattle.file_transfer.specs.ClientStands.{AskedStand, descriptor_in, pages_named, after_sending}

@@ -1,5 +1,5 @@
 -- The rounds of a get over registered pages, in each lawful past of one.
-use Rattle.std.proofs.Common.{◌≡◌, ◌⊎◌, inl, inr, ℕ, zero, suc, ◌+◌, ◌-◌, ◌*◌, ◌%◌, ◌<◌, ◌≤◌, ◌==◌, nat_lt, nat_le, not, ◌&&◌, ◌||◌, Bool, true, false, cond, Option, Some, None, List, [], ◌∷◌, ◌++◌, length, drop, replicate, option_map, refl, sym, ap, ◌∙◌, subst, append_assoc, length-append, arith}
+use Rattle.std.proofs.Common.{◌≡◌, ◌⊎◌, inl, inr, ℕ, zero, suc, ◌+◌, ◌-◌, ◌*◌, ◌<◌, ◌≤◌, ◌==◌, nat_lt, ◌&&◌, ◌||◌, Bool, true, false, cond, Option, Some, None, List, [], ◌∷◌, ◌++◌, length, drop, replicate, option_map, refl, sym, ap, ◌∙◌, subst, append_assoc, length-append, arith}
 use Rattle.std.specs.Prelude.{slice_get}
 use Rattle.std.proofs.lemmas.Bool.Decides.{nat_tests}
 use Rattle.std.proofs.lemmas.List.{append-nil}
@@ -10,18 +10,16 @@ use Rattle.file_messages.specs.declared.fault.ReplyFault.{ReplyFault}
 use Rattle.file_messages.specs.declared.message.Request.{Request}
 use Rattle.file_messages.specs.declared.job.Job.{Job}
 use Rattle.file_messages.specs.declared.job.Work.{Work}
-use Rattle.file_messages.specs.declared.job.Work.TheVariants.{Load, Fetch, Place, Unload}
+use Rattle.file_messages.specs.declared.job.Work.TheVariants.{Load, Unload}
 use Rattle.file_messages.specs.declared.job.Completion.{Completion}
-use Rattle.file_messages.specs.declared.job.WorkResult.{WorkResult}
-use Rattle.file_messages.specs.declared.job.WorkResult.TheVariants.{Loaded, Fetched, Placed, Unloaded, Refused}
 use Rattle.file_messages.specs.Messages.{END}
 use Rattle.file_messages.specs.Runs.{end_request}
-use Rattle.file_pasts.specs.ClientPast.{ClientEvent, Group, End, Sent, Replied, Gave, Completed, Received, requests_sent, jobs_given, open_jobs, job_at, without_job, token_in, loaded_by, descriptors_on, Answers, fault_for, lasting_or, reply_fault, replied, answers, AnswersJob, IsOfKind}
+use Rattle.file_pasts.specs.ClientPast.{ClientEvent, Group, End, Sent, Replied, Gave, Completed, Received, requests_sent, jobs_given, open_jobs, job_at, without_job, token_in, loaded_by, descriptors_on, fault_for, lasting_or, reply_fault, replied, answers, AnswersJob}
 use Rattle.file_pasts.specs.PutDue.{in_front, if_taken, unloads_of, unloads_of_first}
-use Rattle.file_pasts.specs.GetDue.{sent, goes_on, has_ended, jobs_completed, page_loads, begins_round, jobs_due, descriptors_loaded, read_request, read_due, next_request, counts_taken, sum_of, last_count, IsGet}
+use Rattle.file_pasts.specs.GetDue.{sent, goes_on, has_ended, jobs_completed, page_loads, begins_round, jobs_due, descriptors_loaded, read_request, read_due, counts_taken, sum_of, last_count, IsGet}
 use Rattle.file_pasts.specs.InStep.{is_load_on, one_if, count, count_open}
-use Rattle.file_pasts.proofs.Lists.{within, get_in_front, get_last}
-use Rattle.file_pasts.proofs.InStep.{count-append, count_open-append, count_open-without, loaded-count, loads-none, counted}
+use Rattle.file_pasts.proofs.Lists.{within, get_in_front}
+use Rattle.file_pasts.proofs.InStep.{count-append, count_open-append, count_open-without, loaded-count, loads-none}
 use Rattle.file_pasts.proofs.GetTokens.{given_due}
 use Rattle.file_pasts.proofs.GetPages.{next_in_rest}
 use Rattle.file_transfer.proofs.GetWaits.{NextGet, next_get, end_known}

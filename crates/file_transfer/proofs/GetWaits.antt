@@ -1,5 +1,5 @@
 -- What a get waits for: its requests come one by one, and each reply counts at most what was asked for.
-use Rattle.std.proofs.Common.{◌≡◌, ◌⊎◌, inl, inr, ℕ, zero, suc, ◌+◌, ◌*◌, ◌≤◌, ◌==◌, nat_lt, nat_le, not, ◌&&◌, ◌||◌, Bool, true, false, cond, Option, Some, None, option_map, Result, Ok, Err, List, [], ◌∷◌, ◌++◌, length, drop, is_some, refl, sym, ap, ◌∙◌, subst, length-append, length-drop, arith}
+use Rattle.std.proofs.Common.{◌≡◌, ◌⊎◌, inl, inr, ℕ, suc, ◌+◌, ◌*◌, ◌≤◌, ◌==◌, nat_lt, nat_le, not, ◌&&◌, ◌||◌, Bool, true, false, cond, Option, Some, None, option_map, List, [], ◌∷◌, ◌++◌, length, drop, refl, sym, ap, ◌∙◌, subst, length-append, length-drop, arith}
 use Rattle.std.proofs.lemmas.Bool.Decides.{nat_tests}
 use Rattle.std.proofs.lemmas.List.{append-nil}
 use Rattle.smbd_base.specs.Fields.{u16_at, u32_at}
@@ -11,7 +11,7 @@ use Rattle.file_messages.specs.declared.fault.FileFault.TheVariants.{Short, Op, 
 use Rattle.file_messages.specs.declared.fault.ReplyFault.{ReplyFault}
 use Rattle.file_messages.specs.declared.fault.ReplyFault.TheVariants.{Status}
 use Rattle.file_messages.specs.declared.message.Request.{Request}
-use Rattle.file_messages.specs.Messages.{WRITE, READ, END, asked_by, reply_of, reply_fields, carries, has_count, fault_in_reply, value_or_fault}
+use Rattle.file_messages.specs.Messages.{WRITE, READ, END, asked_by, reply_fields, carries, has_count, fault_in_reply, value_or_fault}
 use Rattle.file_messages.specs.Runs.{channel_number, end_request}
 use Rattle.file_pasts.specs.ClientPast.{ClientEvent, Group, End, Sent, Replied, Gave, Completed, Received, requests_sent, fault_for, fault_of_reading, lasting_or, reply_fault, replied, answers, has_failed, are_answered}
 use Rattle.file_pasts.specs.GetDue.{counts_taken, sum_of, sent, goes_on, has_ended, is_between_rounds, jobs_completed, descriptors_loaded, read_request, read_due, next_request, IsGet}

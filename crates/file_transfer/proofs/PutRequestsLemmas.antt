@@ -10,7 +10,7 @@ use Rattle.file_messages.specs.declared.message.Request.{Request}
 use Rattle.file_transfer.specs.declared.put_requests.PutRequests.{PutRequests}
 use Rattle.file_transfer.specs.declared.client_requests.Unanswered.{Unanswered}
 use Rattle.file_messages.specs.Runs.{inline_write, registered_write, end_request, page_of, pages_of}
-use Rattle.file_pasts.specs.ClientPast.{ClientEvent, Group, Sent, groups_in, is_ended, requests_sent, total, answers, has_failed, are_answered}
+use Rattle.file_pasts.specs.ClientPast.{ClientEvent, Group, Sent, groups_in, requests_sent, total, has_failed, are_answered}
 use Rattle.file_pasts.specs.PutDue.{Setup, Follows, next_request, write_due, is_finished, bytes_before, descriptors_for}
 use Rattle.file_transfer.specs.ClientStands.{Awaited, AskedStand, awaited_in, awaited_by, after_sending}
 use Rattle.file_transfer.specs.PutStands.{RequestsStand, AllSent, is_over}

@@ -1,5 +1,5 @@
 -- How a get over registered pages stands after its past.
-use Rattle.std.specs.Prelude.{◌≡◌, ℕ, ◌*◌, ◌<◌, ◌==◌, nat_le, ◌||◌, Bool, List, [], length, if◌then◌else◌}
+use Rattle.std.specs.Prelude.{ℕ, ◌*◌, ◌<◌, ◌==◌, nat_le, ◌||◌, Bool, List, [], length, if◌then◌else◌}
 use Rattle.file_messages.specs.declared.kind.Channel.TheVariants as channels
 use Rattle.file_messages.specs.declared.job.Completion.{Completion}
 use Rattle.file_messages.specs.declared.job.Work.{Work}

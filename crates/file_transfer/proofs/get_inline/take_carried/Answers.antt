@@ -1,7 +1,7 @@
-use Rattle.std.proofs.Common.{◌≡◌, ◌+◌, ◌≤◌, ◌++◌, ℕ, List, [], length, take, drop, refl, sym, ap, ◌∙◌, length-take, arith}
+use Rattle.std.proofs.Common.{◌≡◌, ◌++◌, ℕ, List, length, take, drop, sym, ap, ◌∙◌, length-take, arith}
 use Rattle.std.proofs.lemmas.List.{append-nil}
 use Rattle.smbd_base.specs.Fields.{u32_at}
-use Rattle.file_pasts.specs.GetDue.{some_bytes, bytes_carried}
+use Rattle.file_pasts.specs.GetDue.{some_bytes}
 use Rattle.file_transfer.proofs.GetGroupsLemmas.{carried, groups-carried}
 use Rattle.file_transfer.proofs.get_inline.take_carried.Goals as goal
 

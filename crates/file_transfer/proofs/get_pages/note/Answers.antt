@@ -1,11 +1,11 @@
-use Rattle.std.proofs.Common.{◌≡◌, ◌<◌, ◌%◌, ◌∷◌, true, false, Some, None, ℕ, List, length, map, sym, ap, ◌∙◌, subst, arith}
+use Rattle.std.proofs.Common.{◌%◌, Some, ℕ, List, map, sym, ap, ◌∙◌, subst, arith}
 use Rattle.std.specs.Prelude.{slice_set, Option}
 use Rattle.buffer_descriptor.specs.declared.descriptor.Descriptor.{Descriptor}
 use Rattle.file_messages.specs.declared.job.WorkResult.{WorkResult}
 use Rattle.file_messages.specs.declared.job.WorkResult.TheVariants.{Loaded, Unloaded}
 use Rattle.file_pasts.specs.ClientPast.{AnswersJob, loaded_by}
 use Rattle.file_pasts.specs.GetDue.{sent}
-use Rattle.file_transfer.specs.GetPagesStand.{loaded_in, back_in, loads_at, pages_from, first_unload}
+use Rattle.file_transfer.specs.GetPagesStand.{back_in, first_unload}
 use Rattle.file_transfer.proofs.GetPagesLemmas.{load-turn, unload-turn, no-other, loads-set, loads-same, pages-set}
 use Rattle.file_transfer.proofs.get_pages.note.Goals as goal
 

@@ -1,4 +1,4 @@
-use Rattle.std.proofs.Common.{◌≡◌, ◌++◌, None, List, [], ◌∷◌, sym, ap, ◌∙◌}
+use Rattle.std.proofs.Common.{◌++◌, None, List, [], ◌∷◌, sym, ap, ◌∙◌}
 use Rattle.file_transfer.specs.declared.get_pages.Page.{Page}
 use Rattle.file_transfer.proofs.GetPagesLemmas.{unused-more}
 use Rattle.file_transfer.proofs.get_pages.unused.Goals as goal

@@ -1,15 +1,13 @@
-use Rattle.std.proofs.Common.{◌≡◌, ◌+◌, ◌*◌, ◌<◌, ◌≤◌, ◌++◌, ℕ, true, List, ◌∷◌, length, take, map, refl, sym, ap, ◌∙◌, subst, arith}
-use Rattle.file_messages.specs.declared.kind.Channel.TheVariants as channels
-use Rattle.file_messages.specs.declared.job.Work.{Work}
-use Rattle.file_pasts.specs.ClientPast.{ClientEvent, Completed, AnswersJob}
-use Rattle.file_pasts.specs.GetDue.{IsGet, sent, jobs_due, page_loads, some_bytes}
-use Rattle.file_transfer.specs.GetPagesStand.{sizes, back_in, same_bytes, pages_from, first_unload}
+use Rattle.std.proofs.Common.{◌+◌, ◌++◌, ℕ, ◌∷◌, length, take, map, refl, sym, ap, ◌∙◌, subst, arith}
+use Rattle.file_pasts.specs.ClientPast.{Completed}
+use Rattle.file_pasts.specs.GetDue.{jobs_due, some_bytes}
+use Rattle.file_transfer.specs.GetPagesStand.{sizes, back_in, same_bytes, first_unload}
 use Rattle.std.specs.List.{flat_map}
 use Rattle.file_transfer.specs.ClientJobs.{JobsStand}
-use Rattle.file_transfer.specs.GetRegisteredStands.{RegisteredGetStands, loads_after}
+use Rattle.file_transfer.specs.GetRegisteredStands.{loads_after}
 use Rattle.file_transfer.proofs.GetRounds.{length-loads}
 use Rattle.file_transfer.proofs.GetPagesLemmas.{sizes-short}
-use Rattle.file_transfer.proofs.GetRegisteredLemmas.{RoundCloses, few-completed, last-of-round, round-goes, round-ends}
+use Rattle.file_transfer.proofs.GetRegisteredLemmas.{few-completed, last-of-round, round-goes, round-ends}
 use Rattle.file_transfer.proofs.get_registered.completed.Goals as goal
 
 pub overflow_add-rounds : goal.overflow_add-rounds

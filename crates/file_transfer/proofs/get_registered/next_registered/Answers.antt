@@ -1,12 +1,11 @@
-use Rattle.std.proofs.Common.{◌≡◌, ◌++◌, true, false, Bool, not, ◌&&◌, nat_lt, ◌*◌, ◌+◌, ℕ, Option, Some, None, List, [], ◌∷◌, map, refl, sym, ap, ◌∙◌, subst}
+use Rattle.std.proofs.Common.{◌≡◌, true, Option, Some, refl, sym, ap, ◌∙◌, subst}
 use Rattle.std.specs.Prelude.{option_map}
 use Rattle.file_messages.specs.declared.kind.Channel.TheVariants as channels
 use Rattle.file_messages.specs.declared.message.Request.{Request}
-use Rattle.file_pasts.specs.ClientPast.{ClientEvent, Sent, requests_sent}
-use Rattle.file_pasts.specs.GetDue.{sent, goes_on, has_ended, is_between_rounds, descriptors_loaded, next_request}
+use Rattle.file_pasts.specs.GetDue.{sent, is_between_rounds, descriptors_loaded, next_request}
 use Rattle.file_transfer.specs.ClientStands.{pages_named, after_sending}
 use Rattle.file_transfer.specs.GetStands.{may_ask, read_after, end_after}
-use Rattle.file_transfer.specs.GetPagesStand.{loaded_in, all_of}
+use Rattle.file_transfer.specs.GetPagesStand.{all_of}
 use Rattle.file_transfer.specs.GetRegisteredStands.{RegisteredGetStands}
 use Rattle.file_transfer.proofs.GetRequestsLemmas.{end-is, read-is, ended-by, unended-by, unfailed}
 use Rattle.file_transfer.proofs.GetGroupsLemmas.{groups-sent, ended-awaits}

@@ -1,6 +1,3 @@
-use Rattle.std.proofs.Common.{◌≡◌, Option, Some, None, sym, subst}
-use Rattle.file_transfer.specs.declared.get_registered.GetRounds.{GetRounds}
-use Rattle.file_transfer.specs.GetClientStands.{RoundsIfAny}
 use Rattle.file_transfer.proofs.GetGroupsLemmas.{none_answers}
 use Rattle.file_transfer.proofs.GetClientLemmas.{none_rounds}
 use Rattle.file_transfer.proofs.get_client.GetClient.completed.Goals as goal

@@ -1,8 +1,6 @@
-use Rattle.std.proofs.Common.{◌≡◌, Some, List, length, map, sym, ap, ◌∙◌, subst, arith}
+use Rattle.std.proofs.Common.{length, ap, subst, arith}
 use Rattle.file_messages.specs.declared.kind.Channel.{Channel}
-use Rattle.file_pasts.specs.ClientPast.{answers}
 use Rattle.file_pasts.specs.GetDue.{IsGet}
-use Rattle.file_transfer.specs.ClientStands.{descriptor_in, first_named}
 use Rattle.file_transfer.proofs.GetRequestsLemmas.{length-named}
 use Rattle.file_transfer.proofs.GetRegisteredLemmas.{kept-first}
 use Rattle.file_transfer.proofs.GetClientLemmas.{as_rounds}

@@ -1,4 +1,4 @@
-use Rattle.std.proofs.Common.{◌≡◌, ℕ, Option, List, refl, subst, arith}
+use Rattle.std.proofs.Common.{◌≡◌, ℕ, Option, List, subst, arith}
 use Rattle.file_pasts.specs.GetDue.{next_group}
 use Rattle.file_transfer.specs.GetStands.{GroupsStand, after_receiving}
 use Rattle.file_transfer.proofs.GetGroupsLemmas.{groups-received, group-is}

@@ -1,6 +1,5 @@
-use Rattle.std.proofs.Common.{◌≡◌, ◌+◌, ◌++◌, ◌≤◌, List, [], length, refl, ap, ◌∙◌, subst, arith}
+use Rattle.std.proofs.Common.{List, [], length, refl, ap, subst, arith}
 use Rattle.file_messages.specs.declared.job.Work.{Work}
-use Rattle.file_pasts.specs.GetDue.{page_loads}
 use Rattle.file_transfer.specs.ClientJobs.{JobsStand}
 use Rattle.file_transfer.proofs.GetRounds.{length-loads}
 use Rattle.file_transfer.proofs.GetRegisteredLemmas.{rounds-open}

@@ -1,4 +1,4 @@
-use Rattle.std.proofs.Common.{◌+◌, ℕ, refl, sym, ap, ◌∙◌}
+use Rattle.std.proofs.Common.{◌+◌, ℕ, refl, ap, ◌∙◌}
 use Rattle.file_messages.specs.Runs.{channel_number}
 use Rattle.file_transfer.specs.ClientStands.{Awaited, pages_named}
 use Rattle.file_transfer.specs.GetStands.{read_after}
