@@ -11,8 +11,8 @@ ghost use Rattle.transfer_msg.specs.Written.{header_text};
 use crate::heard::Heard;
 use crate::peer::Peer;
 use negotiate_msg::{
-    NegotiateRequest, NegotiateResponse, REQUEST_SIZE, RESPONSE_SIZE, answer, read_request, read_response, refusal, settle,
-    write_request, write_response,
+    NegotiateRequest, NegotiateResponse, REQUEST_SIZE, RESPONSE_SIZE, answer, read_request,
+    read_response, refusal, settle, write_request, write_response,
 };
 use reassembly::Gather;
 use smbd_base::{EndId, EndLimits, Frame, Message, NegotiateFault, NoMemory, TakeFault};

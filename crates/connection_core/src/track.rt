@@ -28,7 +28,10 @@ use credit_ledger::Ledger;
 use fragmenter::{Cutter, Piece};
 use negotiate_msg::settle_with_client;
 use reassembly::Gather;
-use smbd_base::{Agreed, EndId, EndLimits, Event, Frame, LEAST_FRAGMENTED_SIZE, Message, NegotiateFault, Next, NoMemory, SubmitFault, TakeFault};
+use smbd_base::{
+    Agreed, EndId, EndLimits, Event, Frame, LEAST_FRAGMENTED_SIZE, Message, NegotiateFault, Next,
+    NoMemory, SubmitFault, TakeFault,
+};
 use std::alloc::Global;
 use std::marker::Model;
 use transfer_msg::{Header, read};

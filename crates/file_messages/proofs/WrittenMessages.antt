@@ -12,7 +12,7 @@ use Rattle.file_messages.specs.declared.fault.FileFault.{FileFault}
 use Rattle.file_messages.specs.declared.fault.FileFault.TheVariants.{Short, Op, Channel, Count, Length, Overlap, Order}
 use Rattle.file_messages.specs.declared.message.Request.{Request}
 use Rattle.file_messages.specs.declared.message.Reply.{Reply}
-use Rattle.file_messages.specs.Messages.{u64_at, is_short, is_op, is_count, lists_descriptors, counts_well, has_length, request_fault, request_fields, request_of, request_bytes, header_bytes, value_or_fault, descriptors_in, is_sound, are_sound, sum_of_lengths, overlap, fault_in_reply, reply_fields, reply_bytes, has_count, carries}
+use Rattle.file_messages.specs.Messages.{u64_at, is_short, is_op, is_count, lists_descriptors, counts_well, has_length, request_fault, request_fields, request_of, request_bytes, header_bytes, value_or_fault, descriptors_in, is_sound, are_sound, sum_of_lengths, overlap, fault_in_reply, reply_fields, reply_bytes, has_count, carries_bytes}
 use Rattle.file_messages.specs.Runs.{inline_write, end_request}
 use Rattle.file_messages.specs.Written.{HasPlace, IsLength, TokensFit, MayBeNamed, registered, inline_read, IsReadBack, InlineWritesAreRead, InlineReadsAreRead, RegisteredAreRead, EndsAreRead, RepliesAreRead}
 
@@ -269,7 +269,7 @@ replies_read asked r a =
     let op : u16_at 0 bytes ≡ r.op = (let small : asked.op < 32768 = a.asked_op in u16_at-append [] r.op (drop 2 bytes) 0 refl (omega (arith, a.op))) in
     let id : u32_at 4 bytes ≡ r.id = u32_at-append (take 4 bytes) r.id (drop 8 bytes) 4 refl a.id_fits in
     let count : u32_at 8 bytes ≡ r.count = u32_at-append (take 8 bytes) r.count (drop 12 bytes) 8 refl a.count_fits in
-    let inline : cond (carries asked bytes) r.inline [] ≡ r.inline =
+    let inline : cond (carries_bytes asked bytes) r.inline [] ≡ r.inline =
     ap (λ (s : ℕ). cond (asked.op == 2 && asked.channel == 0 && s == 0) r.inline []) status ∙ kept (asked.op == 2 && asked.channel == 0 && r.status == 0) refl in
     let fields : reply_fields asked bytes ≡ r = made op status id count inline in
     let long : nat_lt (length bytes) 12 ≡ false = (let x : 12 ≤ length bytes = omega arith in grind (arith, nat_tests)) in

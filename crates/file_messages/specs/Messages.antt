@@ -125,7 +125,7 @@ abbrev pub RefusesRequest : List ℕ → FileFault → Type 0
 RefusesRequest bytes NoMemory = request_fault bytes ≡ None
 RefusesRequest bytes fault = request_fault bytes ≡ Some fault
 
--- the one written form: the header, and what it carries
+-- the one written form: the header, and what it carries_bytes
 abbrev pub header_bytes : ℕ → ℕ → ℕ → ℕ → ℕ → ℕ → List ℕ
 header_bytes op channel id offset len count =
     to_le_bytes w16 op ++ to_le_bytes w16 channel ++ to_le_bytes w32 id ++ to_le_bytes w64 offset
@@ -142,9 +142,9 @@ asked_by r = record { op = r.op; channel = r.channel; id = r.id; length = r.leng
 
 -- ---- the reply: op, status, id and count, and the bytes of a READ without registered pages
 
--- the reply carries its bytes
-abbrev pub carries : Asked → List ℕ → Bool
-carries asked bytes = asked.op == READ && asked.channel == 0 && u16_at 2 bytes == 0
+-- the reply carries_bytes its bytes
+abbrev pub carries_bytes : Asked → List ℕ → Bool
+carries_bytes asked bytes = asked.op == READ && asked.channel == 0 && u16_at 2 bytes == 0
 
 abbrev pub reply_fields : Asked → List ℕ → Reply
 reply_fields asked bytes = record {
@@ -152,7 +152,7 @@ reply_fields asked bytes = record {
   status = u16_at 2 bytes;
   id = u32_at 4 bytes;
   count = u32_at 8 bytes;
-  inline = if carries asked bytes then drop 12 bytes else [];
+  inline = if carries_bytes asked bytes then drop 12 bytes else [];
 }
 
 -- the count that fits: of a WRITE its length, of a READ at most its length, of END and of a refusal 0
@@ -181,14 +181,14 @@ abbrev pub RefusesReply : Asked → List ℕ → FileFault → Type 0
 RefusesReply asked bytes NoMemory = fault_in_reply asked bytes ≡ None
 RefusesReply asked bytes fault = fault_in_reply asked bytes ≡ Some fault
 
--- the one written form: the header, and what it carries
+-- the one written form: the header, and what it carries_bytes
 abbrev pub reply_header : Reply → List ℕ
 reply_header r = to_le_bytes w16 r.op ++ to_le_bytes w16 r.status ++ to_le_bytes w32 r.id ++ to_le_bytes w32 r.count
 
 abbrev pub reply_bytes : Reply → List ℕ
 reply_bytes r = reply_header r ++ r.inline
 
--- the reply of success to a request, with this count, and these bytes where it carries any
+-- the reply of success to a request, with this count, and these bytes where it carries_bytes any
 abbrev pub success : Request → ℕ → List ℕ → Reply
 success r count bytes = record { op = r.op + 32768; status = 0; id = r.id; count = count; inline = bytes }
 

@@ -16,15 +16,15 @@ parts_from zero size bytes = []
 parts_from (suc count) size bytes = take size bytes ∷ parts_from count size (drop size bytes)
 
 -- the parts of the bytes: consecutive, each of this size, the last one shorter or equal
-abbrev pub parts_of : ℕ → List ℕ → List (List ℕ)
-parts_of size bytes = parts_from ((length bytes + (size - 1)) / size) size bytes
+abbrev pub parts_of_size : ℕ → List ℕ → List (List ℕ)
+parts_of_size size bytes = parts_from ((length bytes + (size - 1)) / size) size bytes
 
 -- what one request carries, and what one page holds
 abbrev pub groups_of : List ℕ → List (List ℕ)
-groups_of bytes = parts_of 65536 bytes
+groups_of bytes = parts_of_size 65536 bytes
 
 abbrev pub pages_of : List ℕ → List (List ℕ)
-pages_of group = parts_of 4096 group
+pages_of group = parts_of_size 4096 group
 
 -- ---- pages. A pool of so many pages has w windows of 16 pages, and the k-th request, from 1, uses one of them.
 

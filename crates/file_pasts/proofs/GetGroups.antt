@@ -12,7 +12,7 @@ use Rattle.smbd_base.specs.Fields.{u32_at}
 use Rattle.file_messages.specs.Messages.{reply_bytes}
 use Rattle.file_messages.specs.Written.{IsCopyable}
 use Rattle.file_messages.specs.Runs.{end_request, reads_count, parts_from, groups_of, get_requests, reply_to, replies_to}
-use Rattle.file_pasts.specs.ClientPast.{ClientEvent, Group, End, Sent, Replied, Gave, Completed, Received, lasting_or, fault_for, reply_fault, replied, answers, has_failed, jobs_given, open_jobs, job_at, without_job}
+use Rattle.file_pasts.specs.ClientPast.{ClientEvent, Group, End, Sent, Replied, Gave, Completed, Received, lasting_or, fault_of_reply, reply_fault, replied, answers, has_failed, jobs_given, open_jobs, job_at, without_job}
 use Rattle.file_pasts.specs.GetDue.{some_bytes, bytes_carried, groups_came, groups_received, next_group, IsGet}
 use Rattle.file_pasts.specs.GetLaws.{replies_in, IsAnswered, groups_taken, GetsReceive}
 use Rattle.file_pasts.proofs.Lists.{take_one_more, get_in_front, front_of, prefix_before, last_mapped, got_of_map}
@@ -107,7 +107,7 @@ came_replied bytes m past q few c at is = by_fault (reply_fault (answers past) m
     never k = cc
   by_fault None e =
       let j : ℕ = length (replies_in past) in
-      let n_is : c.count ≡ j = c.all (fault_before (answers past).fault (fault_for (answers past).unanswered m) e) in
+      let n_is : c.count ≡ j = c.all (fault_before (answers past).fault (fault_of_reply (answers past).unanswered m) e) in
       record {
         count = suc j;
         came = ap (λ (o : Option ReplyFault). groups_came channels.None past ++ (elim o [ None ↦ some_bytes (bytes_carried m) | Some fault ↦ [] ])) e

@@ -15,7 +15,7 @@ use Rattle.file_messages.specs.Messages.{asked_by, reply_bytes, reply_fields, fa
 use Rattle.file_messages.specs.Runs.{end_request, read_of, reads_from, reads_count, get_requests, read_descriptors, reply_to, replies_to}
 use Rattle.file_messages.specs.Written.{IsCopyable, Replies}
 use Rattle.file_messages.proofs.WrittenMessages.{replies_read}
-use Rattle.file_pasts.specs.ClientPast.{ClientEvent, Group, End, Sent, Replied, Gave, Completed, Received, requests_sent, Answers, fault_for, lasting_or, reply_fault, replied, answers, has_failed, are_answered}
+use Rattle.file_pasts.specs.ClientPast.{ClientEvent, Group, End, Sent, Replied, Gave, Completed, Received, requests_sent, Answers, fault_of_reply, lasting_or, reply_fault, replied, answers, has_failed, are_answered}
 use Rattle.file_pasts.specs.GetDue.{counts_taken, sum_of, sent, last_count, goes_on, has_ended, is_between_rounds, descriptors_loaded, read_request, read_due, next_request, IsGet}
 use Rattle.file_pasts.specs.PutTokens.{HasPoolTokens}
 use Rattle.file_pasts.specs.ServerDue.{counted, has_ended as has_ended_among}
@@ -364,7 +364,7 @@ got-replied channel bytes m past q few g at m_is = record {
   same : (x y : Request) → Some x ≡ Some y → x ≡ y
   same x y h = cc
 
-  by_open : (rs : List Request) → (answers past).unanswered ≡ rs → fault_for rs m ≡ None → reply_fault (answers past) m ≡ None → Fine bytes past → Fine bytes (Replied m ∷ past)
+  by_open : (rs : List Request) → (answers past).unanswered ≡ rs → fault_of_reply rs m ≡ None → reply_fault (answers past) m ≡ None → Fine bytes past → Fine bytes (Replied m ∷ past)
   by_open [] u e h f = absurd (let b : ⊥ = cc in b)
   by_open (r ∷ later) u e h f =
       let j : ℕ = length (replies_in past) in
@@ -388,7 +388,7 @@ got-replied channel bytes m past q few g at m_is = record {
     never : Some f ≡ None → ⊥
     never k = cc
   by_fault None e h =
-      let p = parts (answers past).fault (fault_for (answers past).unanswered m) e in
+      let p = parts (answers past).fault (fault_of_reply (answers past).unanswered m) e in
       by_open (answers past).unanswered refl p.1 e (g.fine p.0)
 
 -- at each READ that was sent

@@ -10,7 +10,7 @@ use Rattle.file_messages.specs.declared.kind.Channel.TheVariants as channels
 use Rattle.file_messages.specs.declared.fault.ReplyFault.{ReplyFault}
 use Rattle.file_messages.specs.declared.message.Request.{Request}
 use Rattle.file_messages.specs.declared.job.Work.{Work}
-use Rattle.file_pasts.specs.ClientPast.{ClientEvent, Group, End, Sent, Replied, Gave, Completed, Received, jobs_given, token_in, reply_fault, answers}
+use Rattle.file_pasts.specs.ClientPast.{ClientEvent, Group, End, Sent, Replied, Gave, Completed, Received, jobs_given, token_of_descriptor, reply_fault, answers}
 use Rattle.file_pasts.specs.PutDue.{if_taken, unloads_of, unloads_of_first}
 use Rattle.file_pasts.specs.GetDue.{page_loads, begins_round, jobs_due, IsGet}
 use Rattle.file_pasts.specs.PutPages.{first_if_taken, requests_replied, tokens_named, token_unloaded, tokens_unloaded}
@@ -107,7 +107,7 @@ unloads-due (Replied m ∷ past) =
     flat_map-append token_unloaded (jobs_due past) (if_taken o (unloads_of_first (answers past).unanswered))
     ∙ ap (λ (ts : List PageToken). ts ++ tokens_unloaded (if_taken o (unloads_of_first (answers past).unanswered))) (unloads-due past)
     ∙ ap (λ (ts : List PageToken). tokens_named (requests_replied past) ++ ts) (replied-tokens o (answers past).unanswered)
-    ∙ sym (flat_map-append (λ (r : Request). map token_in r.descriptors) (requests_replied past) (first_if_taken o (answers past).unanswered))
+    ∙ sym (flat_map-append (λ (r : Request). map token_of_descriptor r.descriptors) (requests_replied past) (first_if_taken o (answers past).unanswered))
 unloads-due (Gave work ∷ past) = unloads-due past
 unloads-due (Completed c ∷ past) =
     flat_map-append token_unloaded (jobs_due past) (cond (begins_round past) (page_loads 16 0) [])

@@ -12,7 +12,7 @@ use Rattle.file_messages.specs.declared.job.Work.{Work}
 use Rattle.file_messages.specs.declared.job.Completion.{Completion}
 use Rattle.file_messages.specs.Runs.{groups_of, get_requests, reads_count, read_descriptors, end_request}
 use Rattle.file_messages.specs.Written.{IsCopyable}
-use Rattle.file_pasts.specs.ClientPast.{ClientEvent, Group, End, Sent, Replied, Gave, Completed, Received, requests_sent, jobs_given, open_jobs, lasting_or, fault_for, reply_fault, replied, answers, Answers, has_failed, are_answered, AnswersJob}
+use Rattle.file_pasts.specs.ClientPast.{ClientEvent, Group, End, Sent, Replied, Gave, Completed, Received, requests_sent, jobs_given, open_jobs, lasting_or, fault_of_reply, reply_fault, replied, answers, Answers, has_failed, are_answered, AnswersJob}
 use Rattle.file_pasts.specs.PutDue.{if_taken, unloads_of, unloads_of_first}
 use Rattle.file_pasts.specs.GetDue.{sent, counts_taken, sum_of, last_count, goes_on, jobs_completed, page_loads, jobs_due, some_bytes, pages_back, groups_came, groups_received, has_ended, read_due, next_request, next_group, IsGet}
 use Rattle.file_pasts.specs.PutTokens.{HasPoolTokens}
@@ -306,8 +306,8 @@ rounds-replied bytes m past p e none f s = by_open (answers past).unanswered ref
   came_same = append-nil (groups_came channels.V1 past)
 
   by_open : (rs : List Request) → (answers past).unanswered ≡ rs → Begun bytes (Replied m ∷ past) ⊎ Whole bytes (Replied m ∷ past)
-  by_open [] u = absurd (let h : fault_for (answers past).unanswered m ≡ None = fault_found (answers past).fault (fault_for (answers past).unanswered m) e in
-      let k : fault_for [] m ≡ None = ap (λ (rs : List Request). fault_for rs m) (sym u) ∙ h in let b : ⊥ = cc in b)
+  by_open [] u = absurd (let h : fault_of_reply (answers past).unanswered m ≡ None = fault_found (answers past).fault (fault_of_reply (answers past).unanswered m) e in
+      let k : fault_of_reply [] m ≡ None = ap (λ (rs : List Request). fault_of_reply rs m) (sym u) ∙ h in let b : ⊥ = cc in b)
   by_open (r ∷ later) u = by_case s where
     l : (slice_get (requests_sent past) (length (replies_in past)) ≡ Some r) × (drop (suc (length (replies_in past))) (requests_sent past) ≡ later)
     l = left_at (length (replies_in past)) (requests_sent past) r later (sym f.waiting ∙ u)
@@ -508,7 +508,7 @@ stands bytes (End ∷ past) few p k r u none = absurd p.0
 stands bytes (Sent q ∷ past) few p k r u none = rounds-sent bytes q past p.0 (fares bytes past few p.1 k r none) (stands bytes past few p.1 k r u none)
 stands bytes (Replied m ∷ past) few p k r u none =
     let e : reply_fault (answers past) m ≡ None = taken_now (reply_fault (answers past) m) (answers past) none in
-    let before : (answers past).fault ≡ None = none_before (answers past).fault (fault_for (answers past).unanswered m) e in
+    let before : (answers past).fault ≡ None = none_before (answers past).fault (fault_of_reply (answers past).unanswered m) e in
     let r_before = prefix_before (replies_in past) m _ r in
     rounds-replied bytes m past p.1 e before (fares bytes past few p.1 k r_before before) (stands bytes past few p.1 k r_before u before)
 stands bytes (Gave work ∷ past) few p k r u none = same (stands bytes past few p.1 k r u none) where

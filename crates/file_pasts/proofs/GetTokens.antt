@@ -13,7 +13,7 @@ use Rattle.file_messages.specs.declared.job.Work.TheVariants.{Load, Fetch, Place
 use Rattle.file_messages.specs.declared.job.WorkResult.{WorkResult}
 use Rattle.file_messages.specs.declared.job.WorkResult.TheVariants.{Loaded, Unloaded, Fetched, Placed, Refused}
 use Rattle.file_messages.specs.Runs.{descriptor_of_load, read_descriptors}
-use Rattle.file_pasts.specs.ClientPast.{ClientEvent, Group, End, Sent, Replied, Gave, Completed, Received, jobs_given, open_jobs, job_at, without_job, descriptors_on, loaded_by, token_in, reply_fault, answers, has_failed, IsOfKind}
+use Rattle.file_pasts.specs.ClientPast.{ClientEvent, Group, End, Sent, Replied, Gave, Completed, Received, jobs_given, open_jobs, job_at, without_job, descriptors_on, loaded_by, token_of_descriptor, reply_fault, answers, has_failed, IsOfKind}
 use Rattle.file_pasts.specs.PutDue.{in_front, numbered, if_taken, unloads_of, unloads_of_first}
 use Rattle.file_pasts.specs.GetDue.{page_loads, begins_round, jobs_due, next_job, descriptors_loaded, IsGet}
 use Rattle.file_pasts.specs.PutTokens.{IsNextToken, HasPoolTokens}
@@ -131,10 +131,10 @@ same_descriptor d e a b c = made a b c where
   made x y z = rw (x, y, z) refl
 
 loaded_is : (work : Work) (d : Descriptor) (past : List ClientEvent) → IsOfKind work (Loaded d) → IsWhole work → IsNextToken (Loaded d) past
-    → d ≡ descriptor_of_load (token_in d).page (length (descriptors_on (token_in d).page past)) 4096
+    → d ≡ descriptor_of_load (token_of_descriptor d).page (length (descriptors_on (token_of_descriptor d).page past)) 4096
 unfolding IsWhole
 loaded_is (Load p r bytes) d past k w t =
-    same_descriptor d (descriptor_of_load (token_in d).page (length (descriptors_on (token_in d).page past)) 4096)
+    same_descriptor d (descriptor_of_load (token_of_descriptor d).page (length (descriptors_on (token_of_descriptor d).page past)) 4096)
     (k.0 ∙ ap (λ (x : ℕ). x * 4096) (sym k.1)) t (k.3 ∙ w)
 loaded_is (Fetch e) d past k w t = absurd k
 loaded_is (Place e bytes) d past k w t = absurd k
@@ -155,22 +155,22 @@ get_owned page turn d (Completed c ∷ past) p k e =
     unchanged : slice_get (descriptors_on page past ++ []) turn ≡ Some d → slice_get (descriptors_on page past) turn ≡ Some d
     unchanged h = ap (λ (t : List Descriptor). slice_get t turn) (sym (append-nil (descriptors_on page past))) ∙ h
 
-    by_page : (x : Descriptor) (t : Bool) → ((token_in x).page == page) ≡ t → x ≡ descriptor_of_load (token_in x).page (length (descriptors_on (token_in x).page past)) 4096
+    by_page : (x : Descriptor) (t : Bool) → ((token_of_descriptor x).page == page) ≡ t → x ≡ descriptor_of_load (token_of_descriptor x).page (length (descriptors_on (token_of_descriptor x).page past)) 4096
         → slice_get (descriptors_on page past ++ cond t (x ∷ []) []) turn ≡ Some d → (slice_get (descriptors_on page past) turn ≡ Some d → d ≡ descriptor_of_load page turn 4096) → d ≡ descriptor_of_load page turn 4096
     by_page x false q own h ih = ih (unchanged h)
     by_page x true q own h ih = by_last (get_last (descriptors_on page past) x turn d h) where
-      same : (token_in x).page ≡ page
+      same : (token_of_descriptor x).page ≡ page
       same = grind (arith, nat_tests)
 
       by_last : (slice_get (descriptors_on page past) turn ≡ Some d) ⊎ ((turn ≡ length (descriptors_on page past)) × (d ≡ x)) → d ≡ descriptor_of_load page turn 4096
       by_last (inl a) = ih a
       by_last (inr a) = a.1 ∙ own ∙ ap (λ (z : ℕ). descriptor_of_load z (length (descriptors_on z past)) 4096) same ∙ ap (λ (z : ℕ). descriptor_of_load page z 4096) (sym a.0)
 
-    by_result : (r : WorkResult) → ((x : Descriptor) → c.result ≡ Loaded x → x ≡ descriptor_of_load (token_in x).page (length (descriptors_on (token_in x).page past)) 4096)
+    by_result : (r : WorkResult) → ((x : Descriptor) → c.result ≡ Loaded x → x ≡ descriptor_of_load (token_of_descriptor x).page (length (descriptors_on (token_of_descriptor x).page past)) 4096)
         → slice_get (descriptors_on page past ++ loaded_by page c.result) turn ≡ Some d → (slice_get (descriptors_on page past) turn ≡ Some d → d ≡ descriptor_of_load page turn 4096) → d ≡ descriptor_of_load page turn 4096
     by_result r own h ih = go c.result refl (ap (λ (x : WorkResult). slice_get (descriptors_on page past ++ loaded_by page x) turn) refl ∙ h) where
       go : (x : WorkResult) → c.result ≡ x → slice_get (descriptors_on page past ++ loaded_by page x) turn ≡ Some d → d ≡ descriptor_of_load page turn 4096
-      go (Loaded x) q f = by_page x ((token_in x).page == page) refl (own x q) f ih
+      go (Loaded x) q f = by_page x ((token_of_descriptor x).page == page) refl (own x q) f ih
       go (Fetched bytes) q f = ih (unchanged f)
       go Placed q f = ih (unchanged f)
       go (Unloaded bytes) q f = ih (unchanged f)

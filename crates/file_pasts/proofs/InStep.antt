@@ -15,7 +15,7 @@ use Rattle.file_messages.specs.declared.job.Completion.{Completion}
 use Rattle.file_messages.specs.declared.job.WorkResult.{WorkResult}
 use Rattle.file_messages.specs.declared.job.WorkResult.TheVariants.{Loaded, Unloaded, Fetched, Placed}
 use Rattle.file_messages.specs.Runs.{pages_of, page_of, parts_from, registered_write}
-use Rattle.file_pasts.specs.ClientPast.{ClientEvent, Group, End, Sent, Replied, Gave, Completed, Received, groups_in, requests_sent, jobs_given, open_jobs, job_at, without_job, unloads_on, descriptors_on, loaded_by, page_freed, page_unloaded, is_page, token_in, reply_fault, answers, has_failed, AnswersJob, IsOfKind}
+use Rattle.file_pasts.specs.ClientPast.{ClientEvent, Group, End, Sent, Replied, Gave, Completed, Received, groups_in, requests_sent, jobs_given, open_jobs, job_at, without_job, unloads_on, descriptors_on, loaded_by, page_freed, page_unloaded, is_page, token_of_descriptor, reply_fault, answers, has_failed, AnswersJob, IsOfKind}
 use Rattle.file_pasts.specs.PutDue.{IsPut, jobs_due, numbered, parts_on, part_on, named_on, names_page, is_free, load_of_part, load_after, loads_on_free_pages, unloads_of, unloads_of_first, descriptors_for, in_front, bytes_before}
 use Rattle.file_pasts.specs.InStep.{part_at, IsLoadDone, IsUnloadDone, is_load_on, is_unload_on, one_if, count, count_open, names_in, over, InStep}
 use Rattle.file_pasts.proofs.PutLaw.{SentCase, sent_case}
@@ -54,7 +54,7 @@ loads-none page (d ∷ ds) = omega (arith, loads-none page ds)
 unloads-named : (page : ℕ) (ds : List Descriptor) → count (is_unload_on page) (unloads_of ds) ≡ names_page page ds
 unfolding count is_unload_on one_if
 unloads-named page [] = refl
-unloads-named page (d ∷ ds) = by_test ((token_in d).page == page) (unloads-named page ds) where
+unloads-named page (d ∷ ds) = by_test ((token_of_descriptor d).page == page) (unloads-named page ds) where
   by_test : (t : Bool) → count (is_unload_on page) (unloads_of ds) ≡ names_page page ds
       → one_if t + count (is_unload_on page) (unloads_of ds) ≡ cond t (names_page page ds + 1) (names_page page ds)
   by_test true h = omega (arith, h)
@@ -134,7 +134,7 @@ loads-of-group w page first (part ∷ parts) past = by_test (first == page) refl
 
 pub loaded-count : (page : ℕ) (work : Work) (result : WorkResult) → IsOfKind work result → length (loaded_by page result) ≡ one_if (is_load_on page work)
 unfolding is_load_on one_if
-loaded-count page (Load p r bytes) (Loaded d) fits = by_test ((token_in d).page == page) (p == page) (ap (λ (k : ℕ). k == page) fits.1) where
+loaded-count page (Load p r bytes) (Loaded d) fits = by_test ((token_of_descriptor d).page == page) (p == page) (ap (λ (k : ℕ). k == page) fits.1) where
   by_test : (t u : Bool) → t ≡ u → length (cond {A = List Descriptor} t (d ∷ []) []) ≡ one_if u
   by_test true true e = refl
   by_test false false e = refl
@@ -505,9 +505,9 @@ counted f n jobs work e h = omega (arith, count_open-without f n jobs work e, ap
 pub given-due : (f : Work → Bool) (due given rest : List Work) → due ≡ given ++ rest → count f given ≤ count f due
 given-due f due given rest e = omega (arith, ap (count f) e, count-append f given rest)
 
-work_of_load : (past : List ClientEvent) (number : ℕ) (d : Descriptor) (work : Work) → IsOfKind work (Loaded d) → is_load_on (token_in d).page work ≡ true
+work_of_load : (past : List ClientEvent) (number : ℕ) (d : Descriptor) (work : Work) → IsOfKind work (Loaded d) → is_load_on (token_of_descriptor d).page work ≡ true
 unfolding is_load_on
-work_of_load past number d (Load p r bytes) fits = let same : p ≡ (token_in d).page = sym fits.1 in grind (arith, nat_tests)
+work_of_load past number d (Load p r bytes) fits = let same : p ≡ (token_of_descriptor d).page = sym fits.1 in grind (arith, nat_tests)
 work_of_load past number d (Fetch e) fits = absurd fits
 work_of_load past number d (Place e bytes) fits = absurd fits
 work_of_load past number d (Unload t) fits = absurd fits
@@ -519,9 +519,9 @@ no_page_of_load d (Place e bytes) fits = absurd fits
 no_page_of_load d (Unload t) fits = absurd fits
 
 pub load-done : (w number : ℕ) (d : Descriptor) (past : List ClientEvent) → IsPut (over w) past → AnswersJob past (record { number = number; result = Loaded d })
-    → IsLoadDone (token_in d).page number d past
+    → IsLoadDone (token_of_descriptor d).page number d past
 load-done w number d past p a =
-    let page : ℕ = (token_in d).page in
+    let page : ℕ = (token_of_descriptor d).page in
     let s = in_step w page past p in
     let one : 1 ≤ count_open (is_load_on page) (open_jobs past) = counted (is_load_on page) number (open_jobs past) a.work a.is_open (work_of_load past number d a.work a.fits) in
     record {

@@ -5,7 +5,7 @@ use Rattle.std.proofs.lemmas.Bool.Decides.{nat_tests}
 use Rattle.buffer_descriptor.specs.declared.descriptor.Descriptor.{Descriptor}
 use Rattle.file_messages.specs.declared.job.WorkResult.{WorkResult}
 use Rattle.file_messages.specs.declared.job.WorkResult.TheVariants.{Loaded, Unloaded, Fetched, Placed, Refused}
-use Rattle.file_pasts.specs.ClientPast.{ClientEvent, Gave, Completed, Group, Replied, End, Sent, Received, loaded_by, descriptors_on, token_in}
+use Rattle.file_pasts.specs.ClientPast.{ClientEvent, Gave, Completed, Group, Replied, End, Sent, Received, loaded_by, descriptors_on, token_of_descriptor}
 use Rattle.file_pasts.specs.PutDue.{named_on, descriptors_for, in_front, names_page}
 use Rattle.file_pasts.specs.InStep.{named_at}
 
@@ -19,7 +19,7 @@ named_at-none first page = by_test (nat_le first page) (nat_lt page first) refl 
 -- each descriptor of a page's loads names the page
 unfoldable pub OnPage : ℕ → List Descriptor → Type 0
 OnPage page [] = Unit {0}
-OnPage page (d ∷ ds) = ((token_in d).page ≡ page) × OnPage page ds
+OnPage page (d ∷ ds) = ((token_of_descriptor d).page ≡ page) × OnPage page ds
 
 on_page-append : (page : ℕ) (xs ys : List Descriptor) → OnPage page xs → OnPage page ys → OnPage page (xs ++ ys)
 unfolding OnPage
@@ -28,9 +28,9 @@ on_page-append page (x ∷ xs) ys a b = (a.0, on_page-append page xs ys a.1 b)
 
 on_page-loaded : (page : ℕ) (r : WorkResult) → OnPage page (loaded_by page r)
 unfolding OnPage
-on_page-loaded page (Loaded d) = by_test ((token_in d).page == page) refl where
-  by_test : (t : Bool) → ((token_in d).page == page) ≡ t → OnPage page (cond t (d ∷ []) [])
-  by_test true e = (let h : (token_in d).page ≡ page = grind (arith, nat_tests) in h, tt)
+on_page-loaded page (Loaded d) = by_test ((token_of_descriptor d).page == page) refl where
+  by_test : (t : Bool) → ((token_of_descriptor d).page == page) ≡ t → OnPage page (cond t (d ∷ []) [])
+  by_test true e = (let h : (token_of_descriptor d).page ≡ page = grind (arith, nat_tests) in h, tt)
   by_test false e = tt
 on_page-loaded page (Fetched bytes) = tt
 on_page-loaded page Placed = tt
@@ -48,10 +48,10 @@ on_page page (Gave work ∷ past) = on_page page past
 on_page page (Completed c ∷ past) = on_page-append page (descriptors_on page past) (loaded_by page c.result) (on_page page past) (on_page-loaded page c.result)
 on_page page (Received bytes ∷ past) = on_page page past
 
-pub on_page-at : (page : ℕ) (ds : List Descriptor) (k : ℕ) (d : Descriptor) → OnPage page ds → slice_get ds k ≡ Some d → (token_in d).page ≡ page
+pub on_page-at : (page : ℕ) (ds : List Descriptor) (k : ℕ) (d : Descriptor) → OnPage page ds → slice_get ds k ≡ Some d → (token_of_descriptor d).page ≡ page
 unfolding OnPage
 on_page-at page [] k d a e = absurd (let b : ⊥ = cc in b)
-on_page-at page (x ∷ xs) zero d a e = let same : x ≡ d = cc in subst (λ (y : Descriptor). (token_in y).page ≡ page) same a.0
+on_page-at page (x ∷ xs) zero d a e = let same : x ≡ d = cc in subst (λ (y : Descriptor). (token_of_descriptor y).page ≡ page) same a.0
 on_page-at page (x ∷ xs) (suc k) d a e = on_page-at page xs k d a.1 e
 
 -- the descriptors of a group name its pages, each once
@@ -92,7 +92,7 @@ names-pages q page (part ∷ parts) past ds e =
       by_parts ih (Some d) None p r h = absurd (let b : ⊥ = cc in b)
       by_parts ih (Some d) (Some later) p r h =
           let ds_is : d ∷ later ≡ ds = cc in
-          let page_is : (token_in d).page ≡ page = on_page-at page (descriptors_on page past) (named_on page past) d (on_page page past) p in
+          let page_is : (token_of_descriptor d).page ≡ page = on_page-at page (descriptors_on page past) (named_on page past) d (on_page page past) p in
           let more : names_page q later ≡ named_at (page + 1) (page + 1 + length parts) q = ih later r in
           ap (names_page q) (sym ds_is) ∙ ap (λ (k : ℕ). cond (k == q) (names_page q later + 1) (names_page q later)) page_is
           ∙ ap (λ (k : ℕ). cond (page == q) (k + 1) k) more ∙ ends (page == q) refl

@@ -11,7 +11,7 @@ use Rattle.file_messages.specs.declared.job.Work.TheVariants.{Load, Fetch, Place
 use Rattle.file_messages.specs.declared.job.WorkResult.{WorkResult}
 use Rattle.file_messages.specs.declared.job.WorkResult.TheVariants.{Loaded, Unloaded, Fetched, Placed}
 use Rattle.file_messages.specs.Runs.{descriptor_of_load}
-use Rattle.file_pasts.specs.ClientPast.{ClientEvent, Group, End, Sent, Replied, Gave, Completed, Received, groups_in, jobs_given, open_jobs, job_at, without_job, descriptors_on, loaded_by, token_in, IsOfKind}
+use Rattle.file_pasts.specs.ClientPast.{ClientEvent, Group, End, Sent, Replied, Gave, Completed, Received, groups_in, jobs_given, open_jobs, job_at, without_job, descriptors_on, loaded_by, token_of_descriptor, IsOfKind}
 use Rattle.file_pasts.specs.PutDue.{IsPut, jobs_due, parts_on, part_on}
 use Rattle.file_pasts.specs.PutTokens.{IsNextToken, HasPoolTokens}
 use Rattle.file_pasts.specs.InStep.{is_load_on, is_unload_on, one_if, count, count_open, over}
@@ -104,15 +104,15 @@ owned-completed : (page n : ℕ) (ds : List Descriptor) (parts : List (List ℕ)
     → (is_load_on page work ≡ true → count_open (is_load_on page) (without_job n jobs) ≡ 0)
     → Owned page (ds ++ loaded_by page result) parts (without_job n jobs)
 unfolding is_load_on
-owned-completed page n ds parts jobs past (Load q r bytes) (Loaded d) o ds_is fits token opened last = by_page ((token_in d).page == page) refl where
+owned-completed page n ds parts jobs past (Load q r bytes) (Loaded d) o ds_is fits token opened last = by_page ((token_of_descriptor d).page == page) refl where
   unchanged : Owned page (ds ++ []) parts (without_job n jobs)
   unchanged = subst (λ (xs : List Descriptor). Owned page xs parts (without_job n jobs)) (sym (append-nil ds))
       (record { own = o.own; carry = carry-without page (slice_get parts (length ds)) n jobs o.carry })
 
-  by_page : (t : Bool) → ((token_in d).page == page) ≡ t → Owned page (ds ++ cond t (d ∷ []) []) parts (without_job n jobs)
+  by_page : (t : Bool) → ((token_of_descriptor d).page == page) ≡ t → Owned page (ds ++ cond t (d ∷ []) []) parts (without_job n jobs)
   by_page false e = unchanged
   by_page true e =
-      let on : (token_in d).page ≡ page = grind (arith, nat_tests) in
+      let on : (token_of_descriptor d).page ≡ page = grind (arith, nat_tests) in
       let here : q ≡ page = sym fits.1 ∙ on in
       let part : slice_get parts (length ds) ≡ Some bytes = carry-at page (slice_get parts (length ds)) n jobs (Load q r bytes) o.carry opened here in
       let is_load : (q == page) ≡ true = grind (arith, nat_tests) in

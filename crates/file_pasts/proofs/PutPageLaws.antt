@@ -12,7 +12,7 @@ use Rattle.file_messages.specs.declared.message.Request.{Request}
 use Rattle.file_messages.specs.declared.job.Work.{Work}
 use Rattle.file_messages.specs.declared.job.Work.TheVariants.{Load}
 use Rattle.file_messages.specs.Runs.{pages_of, page_of, registered_write, end_request}
-use Rattle.file_pasts.specs.ClientPast.{ClientEvent, Group, End, Sent, Replied, Gave, Completed, Received, groups_in, requests_sent, jobs_given, descriptors_on, loaded_by, token_in, reply_fault, replied, answers, page_freed, unloads_on}
+use Rattle.file_pasts.specs.ClientPast.{ClientEvent, Group, End, Sent, Replied, Gave, Completed, Received, groups_in, requests_sent, jobs_given, descriptors_on, loaded_by, token_of_descriptor, reply_fault, replied, answers, page_freed, unloads_on}
 use Rattle.file_pasts.specs.PutDue.{jobs_due, parts_on, part_on, is_free, load_of_part, load_after, loads_on_free_pages, unloads_of, unloads_of_first, if_taken, named_on, descriptors_for, in_front, bytes_before}
 use Rattle.file_pasts.specs.InStep.{count, is_load_on, over, InStep}
 use Rattle.file_pasts.specs.PutPages.{PagesGoInStep, LoadsComeDue, bytes_loaded, ArePutJobs, LoadsCarryParts, JobsAreOfAPut, PartsAreOfGroups, LoadsOwnParts, NamedAreLoaded, first_if_taken, requests_replied, tokens_named, token_unloaded, tokens_unloaded, RequestsAreAnswered, UnloadsFollowReplies}
@@ -180,7 +180,7 @@ loads_own w page turn d past p k e = (owned w page past p k).own turn d e
 
 -- the descriptors of a WRITE were found among those of loads
 found : (page : ℕ) (parts : List (List ℕ)) (past : List ClientEvent) (ds : List Descriptor) (i : ℕ) (d : Descriptor) → descriptors_for page parts past ≡ Some ds
-    → slice_get ds i ≡ Some d → (turn : ℕ) × (slice_get (descriptors_on (token_in d).page past) turn ≡ Some d)
+    → slice_get ds i ≡ Some d → (turn : ℕ) × (slice_get (descriptors_on (token_of_descriptor d).page past) turn ≡ Some d)
 found page [] past ds i d e at = absurd (nothing ds i e at) where
   nothing : (xs : List Descriptor) (k : ℕ) → Some [] ≡ Some xs → slice_get xs k ≡ Some d → ⊥
   nothing [] k p q = cc
@@ -197,13 +197,13 @@ found page (part ∷ parts) past ds i d e at =
       by_parts : (o : Option Descriptor) (l : Option (List Descriptor)) → slice_get (descriptors_on page past) (named_on page past) ≡ o → descriptors_for (page + 1) parts past ≡ l
           → in_front o l ≡ Some ds → (k : ℕ) → slice_get ds k ≡ Some d
           → ((later : List Descriptor) (m : ℕ) → descriptors_for (page + 1) parts past ≡ Some later → slice_get later m ≡ Some d
-          → (turn : ℕ) × (slice_get (descriptors_on (token_in d).page past) turn ≡ Some d))
-          → (turn : ℕ) × (slice_get (descriptors_on (token_in d).page past) turn ≡ Some d)
+          → (turn : ℕ) × (slice_get (descriptors_on (token_of_descriptor d).page past) turn ≡ Some d))
+          → (turn : ℕ) × (slice_get (descriptors_on (token_of_descriptor d).page past) turn ≡ Some d)
       by_parts None l p q h k f ih = absurd (let b : ⊥ = cc in b)
       by_parts (Some x) None p q h k f ih = absurd (let b : ⊥ = cc in b)
       by_parts (Some x) (Some later) p q h zero f ih =
           let x_is : x ≡ d = same_one x d (ap (λ (xs : List Descriptor). slice_get xs 0) (same_list (x ∷ later) ds h) ∙ f) in
-          let page_is : (token_in d).page ≡ page = ap (λ (y : Descriptor). (token_in y).page) (sym x_is) ∙ on_page-at page (descriptors_on page past) (named_on page past) x (on_page page past) p in
+          let page_is : (token_of_descriptor d).page ≡ page = ap (λ (y : Descriptor). (token_of_descriptor y).page) (sym x_is) ∙ on_page-at page (descriptors_on page past) (named_on page past) x (on_page page past) p in
           (named_on page past, ap (λ (y : ℕ). slice_get (descriptors_on y past) (named_on page past)) page_is ∙ p ∙ ap (λ (y : Descriptor). Some y) x_is)
       by_parts (Some x) (Some later) p q h (suc k) f ih =
           ih later k q (ap (λ (xs : List Descriptor). slice_get xs (suc k)) (same_list (x ∷ later) ds h) ∙ f)
@@ -221,12 +221,12 @@ get-more (x ∷ xs) y zero r e = inl e
 get-more (x ∷ xs) y (suc j) r e = get-more xs y j r e
 
 named_now : (w i : ℕ) (r : Request) (d : Descriptor) (past : List ClientEvent) → SentCase (over w) past r → slice_get r.descriptors i ≡ Some d
-    → (turn : ℕ) × (slice_get (descriptors_on (token_in d).page past) turn ≡ Some d)
+    → (turn : ℕ) × (slice_get (descriptors_on (token_of_descriptor d).page past) turn ≡ Some d)
 unfolding SentCase
 named_now w i r d past (inl x) at = by_write (descriptors_for (page_of w (length (requests_sent past) + 1) 0) (pages_of x.0) past) refl x.2 where
   by_write : (o : Option (List Descriptor)) → descriptors_for (page_of w (length (requests_sent past) + 1) 0) (pages_of x.0) past ≡ o
       → option_map (registered_write (length (requests_sent past) + 1) (bytes_before (length (requests_sent past) + 1) past) x.0) o ≡ Some r
-      → (turn : ℕ) × (slice_get (descriptors_on (token_in d).page past) turn ≡ Some d)
+      → (turn : ℕ) × (slice_get (descriptors_on (token_of_descriptor d).page past) turn ≡ Some d)
   by_write None q e = absurd (let b : ⊥ = cc in b)
   by_write (Some ds) q e =
       let r_is : registered_write (length (requests_sent past) + 1) (bytes_before (length (requests_sent past) + 1) past) x.0 ds ≡ r = cc in
@@ -242,15 +242,15 @@ named_loaded w k i r d (Group bytes ∷ past) p e at = named_loaded w k i r d pa
 named_loaded w k i r d (End ∷ past) p e at = named_loaded w k i r d past p.1 e at
 named_loaded w k i r d (Sent s ∷ past) p e at = by_case (get-more (requests_sent past) s k r e) (λ before. named_loaded w k i r d past p.1 before at) where
   by_case : (slice_get (requests_sent past) k ≡ Some r) ⊎ (s ≡ r)
-      → (slice_get (requests_sent past) k ≡ Some r → (turn : ℕ) × (slice_get (descriptors_on (token_in d).page past) turn ≡ Some d))
-      → (turn : ℕ) × (slice_get (descriptors_on (token_in d).page past) turn ≡ Some d)
+      → (slice_get (requests_sent past) k ≡ Some r → (turn : ℕ) × (slice_get (descriptors_on (token_of_descriptor d).page past) turn ≡ Some d))
+      → (turn : ℕ) × (slice_get (descriptors_on (token_of_descriptor d).page past) turn ≡ Some d)
   by_case (inl before) ih = ih before
   by_case (inr same) ih = named_now w i s d past (sent_case (over w) past s p.0) (ap (λ (y : Request). slice_get y.descriptors i) same ∙ at)
 named_loaded w k i r d (Replied m ∷ past) p e at = named_loaded w k i r d past p.1 e at
 named_loaded w k i r d (Gave work ∷ past) p e at = named_loaded w k i r d past p.1 e at
 named_loaded w k i r d (Completed c ∷ past) p e at =
     let t = named_loaded w k i r d past p.1 e at in
-    (t.0, get-left (descriptors_on (token_in d).page past) (loaded_by (token_in d).page c.result) t.0 d t.1)
+    (t.0, get-left (descriptors_on (token_of_descriptor d).page past) (loaded_by (token_of_descriptor d).page c.result) t.0 d t.1)
 named_loaded w k i r d (Received bytes ∷ past) p e at = absurd p.0
 
 -- ---- unloads
@@ -271,15 +271,15 @@ requests_answered (Gave work ∷ past) = requests_answered past
 requests_answered (Completed c ∷ past) = requests_answered past
 requests_answered (Received bytes ∷ past) = requests_answered past
 
-unloads-tokens : (ds : List Descriptor) → tokens_unloaded (unloads_of ds) ≡ map token_in ds
+unloads-tokens : (ds : List Descriptor) → tokens_unloaded (unloads_of ds) ≡ map token_of_descriptor ds
 unfolding token_unloaded
 unloads-tokens [] = refl
-unloads-tokens (d ∷ ds) = ap (λ (ts : List PageToken). token_in d ∷ ts) (unloads-tokens ds)
+unloads-tokens (d ∷ ds) = ap (λ (ts : List PageToken). token_of_descriptor d ∷ ts) (unloads-tokens ds)
 
 pub replied-tokens : (o : Option ReplyFault) (rs : List Request) → tokens_unloaded (if_taken o (unloads_of_first rs)) ≡ tokens_named (first_if_taken o rs)
 replied-tokens (Some fault) rs = refl
 replied-tokens None [] = refl
-replied-tokens None (r ∷ rs) = unloads-tokens r.descriptors ∙ sym (append-nil (map token_in r.descriptors))
+replied-tokens None (r ∷ rs) = unloads-tokens r.descriptors ∙ sym (append-nil (map token_of_descriptor r.descriptors))
 
 loads-tokens : (w page : ℕ) (parts : List (List ℕ)) (past : List ClientEvent) → tokens_unloaded (loads_on_free_pages w page parts past) ≡ []
 unfolding token_unloaded
@@ -310,7 +310,7 @@ unloads-due w (Replied m ∷ past) =
     flat_map-append token_unloaded (jobs_due w past) (if_taken o (unloads_of_first (answers past).unanswered))
     ∙ ap (λ (ts : List PageToken). ts ++ tokens_unloaded (if_taken o (unloads_of_first (answers past).unanswered))) (unloads-due w past)
     ∙ ap (λ (ts : List PageToken). tokens_named (requests_replied past) ++ ts) (replied-tokens o (answers past).unanswered)
-    ∙ sym (flat_map-append (λ (r : Request). map token_in r.descriptors) (requests_replied past) (first_if_taken o (answers past).unanswered))
+    ∙ sym (flat_map-append (λ (r : Request). map token_of_descriptor r.descriptors) (requests_replied past) (first_if_taken o (answers past).unanswered))
 unloads-due w (Gave work ∷ past) = unloads-due w past
 unloads-due w (Completed c ∷ past) =
     flat_map-append token_unloaded (jobs_due w past) (load_after w (page_freed c past) past)

@@ -17,7 +17,7 @@ use Rattle.file_messages.specs.Runs.{parts_from, writes_from, write_of, end_if, 
 use Rattle.file_messages.specs.Written.{IsReadBack, AllReadBack}
 use Rattle.file_messages.proofs.WrittenCopies.{puts_read, gets_read}
 use Rattle.file_pasts.specs.ClientPast.{total}
-use Rattle.file_pasts.specs.ServerDue.{ServerEvent, Asked, Filled, Gave, Completed, Replied, Stored, Requests, requests, replies, judged, judgement, with_judged, is_out_of_turn, has_ended, written, counted, IsServer}
+use Rattle.file_pasts.specs.ServerDue.{ServerEvent, Asked, Filled, Gave, Completed, Replied, Stored, Requests, requests, replies, judged, judgement, with_judged, is_out_of_order, has_ended, written, counted, IsServer}
 use Rattle.file_pasts.specs.ServerLaws.{messages_asked, NothingRefused, FillsFrom}
 use Rattle.file_pasts.specs.ServerAccepts.{AcceptsAll, AsksAfterReplies, PutServersAccept, GetServersAccept}
 use Rattle.file_pasts.proofs.Lists.{within, take_one_more, length_take, prefix_before, last_mapped}
@@ -35,7 +35,7 @@ read_at (q ∷ run) (suc n) r a e = read_at run n r a.1 e
 -- ---- one request
 
 taken : (kind : CopyKind) (accepted : List Request) (fault : Option FileFault) (given : List Reply) (m : List ℕ) (r : Request) → fault ≡ None → request_of m ≡ Ok r
-    → is_out_of_turn kind accepted given r ≡ false
+    → is_out_of_order kind accepted given r ≡ false
     → with_judged (judgement kind (record { accepted = accepted; fault = fault }) given m) (record { accepted = accepted; fault = fault }) ≡ record { accepted = accepted ++ r ∷ []; fault = None }
 taken kind accepted (Some f) given m r none read turn = absurd (let b : ⊥ = cc in b)
 taken kind accepted None given m r none read turn =
@@ -43,12 +43,12 @@ taken kind accepted None given m r none read turn =
     ∙ ap (λ (t : Bool). with_judged (cond t (Err Order) (Ok r)) (record { accepted = accepted; fault = None })) turn
 
 accepts_one : (kind : CopyKind) (run : List Request) (m : List ℕ) (past : List ServerEvent) (r : Request) → slice_get run (length (messages_asked past)) ≡ Some r → request_of m ≡ Ok r
-    → is_out_of_turn kind (take (length (messages_asked past)) run) (replies past) r ≡ false → AcceptsAll kind run past → AcceptsAll kind run (Asked m ∷ past)
+    → is_out_of_order kind (take (length (messages_asked past)) run) (replies past) r ≡ false → AcceptsAll kind run past → AcceptsAll kind run (Asked m ∷ past)
 accepts_one kind run m past r at read turn a =
     let n : ℕ = length (messages_asked past) in
     let now : requests kind (Asked m ∷ past) ≡ record { accepted = (requests kind past).accepted ++ r ∷ []; fault = None } =
     taken kind (requests kind past).accepted (requests kind past).fault (replies past) m r a.fault read
-    (ap (λ (rs : List Request). is_out_of_turn kind rs (replies past) r) a.accepted ∙ turn) in
+    (ap (λ (rs : List Request). is_out_of_order kind rs (replies past) r) a.accepted ∙ turn) in
     let more : length (messages_asked past ++ m ∷ []) ≡ suc n = length-append (messages_asked past) (m ∷ []) ∙ add-one n in
     record {
       fault = ap (λ (q : Requests). q.fault) now;
@@ -104,7 +104,7 @@ same_number n m e = grind (arith, nat_tests)
 none_true : (a b c d : Bool) → a ≡ true → b ≡ false → c ≡ false → d ≡ true → (not a || b || c || not d) ≡ false
 none_true a b c d p q r s = rw (p, q, r, s) refl
 
-put_in_turn : (n : ℕ) (before : List Request) (given : List Reply) (r : Request) → IsNextOfPut (1 + n) 0 before r → length before ≡ n → is_out_of_turn kinds.Put before given r ≡ false
+put_in_turn : (n : ℕ) (before : List Request) (given : List Reply) (r : Request) → IsNextOfPut (1 + n) 0 before r → length before ≡ n → is_out_of_order kinds.Put before given r ≡ false
 put_in_turn n before given r i size =
     let a = i.id_is in
     let d = i.offset_is in
@@ -149,7 +149,7 @@ all_false : (a b c d e : Bool) → a ≡ true → b ≡ false → c ≡ false �
 all_false a b c d e p q r s t = rw (p, q, r, s, t) refl
 
 get_in_turn : (channel : Channel) (bytes : List ℕ) (n : ℕ) (given : List Reply) (r : Request) → IsNextOfGet channel bytes n r → length (take n (get_requests channel bytes)) ≡ n
-    → given ≡ take n (replies_to bytes (get_requests channel bytes)) → length given ≡ n → is_out_of_turn kinds.Get (take n (get_requests channel bytes)) given r ≡ false
+    → given ≡ take n (replies_to bytes (get_requests channel bytes)) → length given ≡ n → is_out_of_order kinds.Get (take n (get_requests channel bytes)) given r ≡ false
 get_in_turn channel bytes n given r i size given_is count =
     let before : List Request = take n (get_requests channel bytes) in
     let a = i.id_is in

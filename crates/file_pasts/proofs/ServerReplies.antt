@@ -12,7 +12,7 @@ use Rattle.file_messages.specs.declared.job.WorkResult.TheVariants.{Loaded, Fetc
 use Rattle.file_messages.specs.Messages.{request_of, request_bytes, success, refusal}
 use Rattle.file_messages.specs.Runs.{replies_to, reply_to, reply_to_read, bytes_read}
 use Rattle.file_messages.specs.Written.{IsReadBack, AllReadBack}
-use Rattle.file_pasts.specs.ServerDue.{ServerEvent, Asked, Filled, Gave, Completed, Replied, Stored, Requests, requests, replies, judged, judgement, with_judged, is_out_of_turn, handled, first_status, standing_status, source_in_hand, source_for, wants_source, results, results_from, result_in_front, result_at, jobs_due, status_of, status_in, read_reply, answer_with, reply_if_handled, next_reply, IsServer}
+use Rattle.file_pasts.specs.ServerDue.{ServerEvent, Asked, Filled, Gave, Completed, Replied, Stored, Requests, requests, replies, judged, judgement, with_judged, is_out_of_order, handled, first_status, standing_status, source_in_hand, source_for, wants_source, results, results_from, result_in_front, result_at, jobs_due, status_of, status_in, read_reply, answer_with, reply_if_handled, next_reply, IsServer}
 use Rattle.file_pasts.specs.ServerLaws.{messages_asked, IsDone, NothingRefused, FillsFrom, AsksFor, ServersReply}
 use Rattle.file_pasts.proofs.Lists.{within, take_one_more, get_of_front, get_in_front, get_of_map, front_of, prefix_before, last_mapped}
 
@@ -96,8 +96,8 @@ accepts : (kind : CopyKind) (accepted : List Request) (fault : Option FileFault)
 unfolding Accepts
 accepts kind accepted (Some f) given m r e = inr (f, refl)
 accepts kind accepted None given m r e =
-    by_turn (is_out_of_turn kind accepted given r) refl where
-      by_turn : (t : Bool) → is_out_of_turn kind accepted given r ≡ t
+    by_turn (is_out_of_order kind accepted given r) refl where
+      by_turn : (t : Bool) → is_out_of_order kind accepted given r ≡ t
           → (with_judged (judged kind accepted given (request_of m)) (record { accepted = accepted; fault = None }) ≡ record { accepted = accepted ++ r ∷ []; fault = None }) × (◌≡◌ {A = Option FileFault} None None)
           ⊎ ((f : FileFault) × (with_judged (judged kind accepted given (request_of m)) (record { accepted = accepted; fault = None }) ≡ record { accepted = accepted; fault = Some f }))
       by_turn true h = inr (

@@ -94,9 +94,9 @@ fault_of_reading (Err fault) = Some (File fault)
 fault_of_reading (Ok reply) = if reply.status == 0 then None else Some (Status reply.status)
 
 -- why a message is no reply of success to the oldest of these requests
-abbrev pub fault_for : List Request → List ℕ → Option ReplyFault
-fault_for [] message = Some (File Order)
-fault_for (r ∷ later) message = fault_of_reading (reply_of (asked_by r) message)
+abbrev pub fault_of_reply : List Request → List ℕ → Option ReplyFault
+fault_of_reply [] message = Some (File Order)
+fault_of_reply (r ∷ later) message = fault_of_reading (reply_of (asked_by r) message)
 
 -- a fault lasts: each later reply gets it too
 abbrev pub lasting_or : Option ReplyFault → Option ReplyFault → Option ReplyFault
@@ -105,7 +105,7 @@ lasting_or None found = found
 
 -- how a message is refused as a reply, if it is
 abbrev pub reply_fault : Answers → List ℕ → Option ReplyFault
-reply_fault a message = lasting_or a.fault (fault_for a.unanswered message)
+reply_fault a message = lasting_or a.fault (fault_of_reply a.unanswered message)
 
 abbrev pub replied : Option ReplyFault → Answers → Answers
 replied (Some fault) a = record { unanswered = a.unanswered; fault = Some fault }
@@ -132,11 +132,11 @@ are_answered past = length (answers past).unanswered == 0
 -- ---- registered pages
 
 -- the token of a descriptor
-abbrev pub token_in : Descriptor → PageToken
-token_in d = record { page = d.token % 256; generation = d.token / 256 }
+abbrev pub token_of_descriptor : Descriptor → PageToken
+token_of_descriptor d = record { page = d.token % 256; generation = d.token / 256 }
 
 abbrev pub loaded_by : ℕ → WorkResult → List Descriptor
-loaded_by page (Loaded d) = if (token_in d).page == page then d ∷ [] else []
+loaded_by page (Loaded d) = if (token_of_descriptor d).page == page then d ∷ [] else []
 loaded_by page (Fetched bytes) = []
 loaded_by page Placed = []
 loaded_by page (Unloaded bytes) = []
@@ -204,7 +204,7 @@ unloads_on page (Received bytes ∷ past) = unloads_on page past
 
 -- a result of the job's kind, which is no refusal
 abbrev pub IsOfKind : Work → WorkResult → Type 0
-IsOfKind (Load page right bytes) (Loaded d) = (d.offset ≡ page * 4096) × ((token_in d).page ≡ page) × (256 ≤ d.token) × (d.length ≡ length bytes)
+IsOfKind (Load page right bytes) (Loaded d) = (d.offset ≡ page * 4096) × ((token_of_descriptor d).page ≡ page) × (256 ≤ d.token) × (d.length ≡ length bytes)
 IsOfKind (Fetch d) (Fetched bytes) = length bytes ≡ d.length
 IsOfKind (Place d bytes) Placed = Unit {0}
 IsOfKind (Unload token) (Unloaded bytes) = length bytes ≡ 4096

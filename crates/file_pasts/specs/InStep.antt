@@ -7,7 +7,7 @@ use Rattle.file_messages.specs.declared.job.Job.{Job}
 use Rattle.file_messages.specs.declared.job.Work.{Work}
 use Rattle.file_messages.specs.declared.job.Work.TheVariants.{Load, Fetch, Place, Unload}
 use Rattle.file_messages.specs.declared.job.WorkResult.TheVariants.{Loaded, Unloaded}
-use Rattle.file_pasts.specs.ClientPast.{ClientEvent, jobs_given, open_jobs, unloads_on, descriptors_on, page_freed, token_in, answers}
+use Rattle.file_pasts.specs.ClientPast.{ClientEvent, jobs_given, open_jobs, unloads_on, descriptors_on, page_freed, token_of_descriptor, answers}
 use Rattle.file_pasts.specs.PutDue.{Setup, jobs_due, parts_on, named_on, names_page}
 
 -- ---- how many jobs are of a kind, on a page
@@ -72,7 +72,7 @@ pub record InStep (w page : ℕ) (past : List ClientEvent) : Type 0 where
 
 -- a Load was completed by this descriptor, and the loads before it were named
 pub record IsLoadDone (page number : ℕ) (d : Descriptor) (past : List ClientEvent) : Type 0 where
-  pub on : (token_in d).page ≡ page
+  pub on : (token_of_descriptor d).page ≡ page
   pub is_load : page_freed (record { number = number; result = Loaded d }) past ≡ None
   pub named : named_on page past ≡ length (descriptors_on page past)
 

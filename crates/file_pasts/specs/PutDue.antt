@@ -10,7 +10,7 @@ use Rattle.file_messages.specs.declared.job.Work.{Work}
 use Rattle.file_messages.specs.declared.job.Work.TheVariants.{Load, Unload}
 use Rattle.file_messages.specs.declared.job.Job.{Job}
 use Rattle.file_messages.specs.Runs.{page_of, turn_of, pages_of, inline_write, registered_write, end_request}
-use Rattle.file_pasts.specs.ClientPast.{ClientEvent, Group, End, Sent, Replied, Gave, Completed, Received, groups_in, is_ended, requests_sent, jobs_given, total, reply_fault, answers, has_failed, are_answered, token_in, descriptors_on, page_freed, unloads_on, AnswersJob}
+use Rattle.file_pasts.specs.ClientPast.{ClientEvent, Group, End, Sent, Replied, Gave, Completed, Received, groups_in, is_ended, requests_sent, jobs_given, total, reply_fault, answers, has_failed, are_answered, token_of_descriptor, descriptors_on, page_freed, unloads_on, AnswersJob}
 
 -- how a put goes: its channel, and how many groups may be under way with registered pages
 pub record Setup : Type 0 where
@@ -27,7 +27,7 @@ in_front (Some d) (Some later) = Some (d ∷ later)
 -- how many of these descriptors name this page
 abbrev pub names_page : ℕ → List Descriptor → ℕ
 names_page page [] = 0
-names_page page (d ∷ later) = if (token_in d).page == page then names_page page later + 1 else names_page page later
+names_page page (d ∷ later) = if (token_of_descriptor d).page == page then names_page page later + 1 else names_page page later
 
 -- how often a WRITE has named a load of this page
 abbrev pub named_on : ℕ → List ClientEvent → ℕ
@@ -113,7 +113,7 @@ load_after w (Some page) past = load_of_part page (slice_get (parts_on w page pa
 
 -- the Unloads of what a request named
 abbrev pub unloads_of : List Descriptor → List Work
-unloads_of descriptors = map (λ (d : Descriptor). Unload (token_in d)) descriptors
+unloads_of descriptors = map (λ (d : Descriptor). Unload (token_of_descriptor d)) descriptors
 
 abbrev pub unloads_of_first : List Request → List Work
 unloads_of_first [] = []

@@ -10,7 +10,7 @@ use Rattle.file_messages.specs.declared.message.Request.{Request}
 use Rattle.file_messages.specs.declared.job.Work.{Work}
 use Rattle.file_messages.specs.declared.job.Work.TheVariants.{Load, Fetch, Place, Unload}
 use Rattle.file_messages.specs.Runs.{pages_of, page_of, turn_of, descriptor_of_load}
-use Rattle.file_pasts.specs.ClientPast.{ClientEvent, Group, End, Sent, Replied, Gave, Completed, Received, groups_in, requests_sent, jobs_given, unloads_on, descriptors_on, token_in, reply_fault, answers}
+use Rattle.file_pasts.specs.ClientPast.{ClientEvent, Group, End, Sent, Replied, Gave, Completed, Received, groups_in, requests_sent, jobs_given, unloads_on, descriptors_on, token_of_descriptor, reply_fault, answers}
 use Rattle.file_pasts.specs.PutDue.{IsPut, jobs_due, parts_on}
 use Rattle.file_pasts.specs.PutTokens.{HasPoolTokens}
 use Rattle.file_pasts.specs.InStep.{is_load_on, count, over, InStep}
@@ -86,7 +86,7 @@ LoadsOwnParts = (w page turn : ℕ) (d : Descriptor) (past : List ClientEvent) �
 abbrev pub NamedAreLoaded : Type 0
 NamedAreLoaded = (w k i : ℕ) (r : Request) (d : Descriptor) (past : List ClientEvent) → IsPut (over w) past
     → slice_get (requests_sent past) k ≡ Some r → slice_get r.descriptors i ≡ Some d
-    → (turn : ℕ) × (slice_get (descriptors_on (token_in d).page past) turn ≡ Some d)
+    → (turn : ℕ) × (slice_get (descriptors_on (token_of_descriptor d).page past) turn ≡ Some d)
 
 -- ---- unloads
 
@@ -108,7 +108,7 @@ requests_replied (Received bytes ∷ past) = requests_replied past
 
 -- the tokens that requests name
 abbrev pub tokens_named : List Request → List PageToken
-tokens_named rs = flat_map (λ (r : Request). map token_in r.descriptors) rs
+tokens_named rs = flat_map (λ (r : Request). map token_of_descriptor r.descriptors) rs
 
 unfoldable pub token_unloaded : Work → List PageToken
 token_unloaded (Load p r bytes) = []

@@ -7,12 +7,12 @@ use Rattle.file_messages.specs.declared.kind.Channel.TheVariants as channels
 use Rattle.file_messages.specs.declared.job.WorkResult.{WorkResult}
 use Rattle.file_messages.specs.declared.job.WorkResult.TheVariants.{Loaded, Unloaded, Fetched, Placed, Refused}
 use Rattle.file_messages.specs.Runs.{put_requests, windows}
-use Rattle.file_pasts.specs.ClientPast.{ClientEvent, Group, End, Sent, Replied, Gave, Completed, Received, is_ended, requests_sent, descriptors_on, token_in}
+use Rattle.file_pasts.specs.ClientPast.{ClientEvent, Group, End, Sent, Replied, Gave, Completed, Received, is_ended, requests_sent, descriptors_on, token_of_descriptor}
 use Rattle.file_pasts.specs.PutDue.{IsPut}
 use Rattle.file_pasts.specs.PutLaws.{put_over, bytes_in}
 
 abbrev pub IsNextToken : WorkResult → List ClientEvent → Type 0
-IsNextToken (Loaded d) past = d.token ≡ number_of (record { page = (token_in d).page; generation = length (descriptors_on (token_in d).page past) + 1 })
+IsNextToken (Loaded d) past = d.token ≡ number_of (record { page = (token_of_descriptor d).page; generation = length (descriptors_on (token_of_descriptor d).page past) + 1 })
 IsNextToken (Fetched bytes) past = Unit {0}
 IsNextToken Placed past = Unit {0}
 IsNextToken (Unloaded bytes) past = Unit {0}

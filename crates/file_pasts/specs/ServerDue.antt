@@ -111,16 +111,16 @@ counted [] = 0
 counted (r ∷ rs) = r.count + counted rs
 
 -- a request that does not come in its turn, after these were accepted and these replies given
-abbrev pub is_out_of_turn : CopyKind → List Request → List Reply → Request → Bool
-is_out_of_turn kinds.Put accepted given r =
+abbrev pub is_out_of_order : CopyKind → List Request → List Reply → Request → Bool
+is_out_of_order kinds.Put accepted given r =
     not (r.id == length accepted + 1) || has_ended accepted || r.op == READ || not (r.offset == written accepted)
-is_out_of_turn kinds.Get accepted given r =
+is_out_of_order kinds.Get accepted given r =
     not (r.id == length accepted + 1) || has_ended accepted || r.op == WRITE || not (r.offset == counted given)
     || not (length given == length accepted)
 
 abbrev pub judged : CopyKind → List Request → List Reply → Result Request FileFault → Result Request FileFault
 judged kind accepted given (Err fault) = Err fault
-judged kind accepted given (Ok r) = if is_out_of_turn kind accepted given r then Err Order else Ok r
+judged kind accepted given (Ok r) = if is_out_of_order kind accepted given r then Err Order else Ok r
 
 -- a fault lasts: each later request gets it too
 abbrev pub judged_after : Option FileFault → Result Request FileFault → Result Request FileFault
@@ -224,8 +224,8 @@ fetched (Refused status) = []
 abbrev pub read_reply : Request → List ℕ → Reply
 read_reply r bytes = success r (length bytes) (if r.channel == 0 then bytes else [])
 
-abbrev pub answer_of : Request → Option (List ℕ) → List WorkResult → Option Reply
-answer_of r source works =
+abbrev pub reply_by_works : Request → Option (List ℕ) → List WorkResult → Option Reply
+reply_by_works r source works =
     if not (status_of works == 0) then Some (refusal r (status_of works))
     else if r.op == WRITE then Some (success r r.length [])
     else if r.op == READ then option_map (read_reply r) source
@@ -233,7 +233,7 @@ answer_of r source works =
 
 abbrev pub answer_with : Request → Option (List ℕ) → Option (List WorkResult) → Option Reply
 answer_with r source None = None
-answer_with r source (Some works) = answer_of r source works
+answer_with r source (Some works) = reply_by_works r source works
 
 abbrev pub reply_if_handled : CopyKind → Option Request → List ServerEvent → Option Reply
 reply_if_handled kind None past = None

@@ -8,7 +8,7 @@ use Rattle.file_messages.specs.declared.message.Asked.{Asked}
 use Rattle.file_transfer.specs.declared.client_requests.ClientRequests.{ClientRequests}
 use Rattle.file_transfer.specs.declared.client_requests.Unanswered.{Unanswered}
 use Rattle.file_messages.specs.Messages.{asked_by, reply_of}
-use Rattle.file_pasts.specs.ClientPast.{ClientEvent, Sent, requests_sent, fault_for, fault_of_reading, lasting_or, reply_fault, answers}
+use Rattle.file_pasts.specs.ClientPast.{ClientEvent, Sent, requests_sent, fault_of_reply, fault_of_reading, lasting_or, reply_fault, answers}
 use Rattle.file_transfer.specs.ClientStands.{Awaited, AskedStand, awaited_in, awaited_by, first_named, first_asked}
 
 pub asked-sent : (past : List ClientEvent) (m n : ClientRequests) (r : Request) (q : Unanswered) → AskedStand past m → awaited_in q ≡ awaited_by r
@@ -64,5 +64,5 @@ pub refused-is : (past : List ClientEvent) (m : ClientRequests) (asked : Asked) 
 refused-is past m asked message c none first =
     let oldest = first-awaited m.unanswered.items (answers past).unanswered asked c.unanswered first in
     let fresh : (answers past).fault ≡ None = sym c.fault ∙ none in
-    sym (ap (λ (o : Option ReplyFault). lasting_or o (fault_for (answers past).unanswered message)) fresh
-    ∙ ap (λ (rs : List Request). fault_for rs message) oldest.1 ∙ ap (λ (a : Asked). fault_of_reading (reply_of a message)) oldest.2)
+    sym (ap (λ (o : Option ReplyFault). lasting_or o (fault_of_reply (answers past).unanswered message)) fresh
+    ∙ ap (λ (rs : List Request). fault_of_reply rs message) oldest.1 ∙ ap (λ (a : Asked). fault_of_reading (reply_of a message)) oldest.2)

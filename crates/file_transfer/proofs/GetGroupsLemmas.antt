@@ -11,7 +11,7 @@ use Rattle.file_messages.specs.declared.message.Request.{Request}
 use Rattle.file_messages.specs.declared.job.Job.{Job}
 use Rattle.file_messages.specs.declared.job.Work.{Work}
 use Rattle.file_messages.specs.declared.job.Completion.{Completion}
-use Rattle.file_pasts.specs.ClientPast.{ClientEvent, Group, End, Sent, Replied, Gave, Completed, Received, requests_sent, jobs_given, open_jobs, job_at, without_job, fault_for, reply_fault, replied, answers, has_failed, AnswersJob}
+use Rattle.file_pasts.specs.ClientPast.{ClientEvent, Group, End, Sent, Replied, Gave, Completed, Received, requests_sent, jobs_given, open_jobs, job_at, without_job, fault_of_reply, reply_fault, replied, answers, has_failed, AnswersJob}
 use Rattle.file_pasts.specs.GetDue.{has_ended, some_bytes, bytes_carried, groups_came, groups_received, next_group, IsGet}
 use Rattle.file_pasts.proofs.Lists.{within, left_at}
 use Rattle.file_transfer.specs.declared.get_groups.GetGroups.{GetGroups}
@@ -84,7 +84,7 @@ pub record IsCarried (past : List ClientEvent) (m : List ℕ) : Type 0 where
 
 pub carried : (past : List ClientEvent) (m : List ℕ) → IsGet channels.None past → reply_fault (answers past) m ≡ None → 1 ≤ u32_at 8 m → IsCarried past m
 carried past m p fine some = by_waits (waits_of channels.None past p) where
-  fault_none : fault_for (answers past).unanswered m ≡ None
+  fault_none : fault_of_reply (answers past).unanswered m ≡ None
   fault_none = taken_first (answers past).fault (answers past).unanswered m fine
 
   one_waits : (r : Request) → (answers past).unanswered ≡ r ∷ [] → has_ended (requests_sent past) ≡ false → awaits channels.None past ≡ true
@@ -95,7 +95,7 @@ carried past m p fine some = by_waits (waits_of channels.None past p) where
 
   by_waits : Waits channels.None past → IsCarried past m
   by_waits (inl x) = absurd (none_taken (answers past).unanswered m x fault_none)
-  by_waits (inr x) = by_kind x.2 (taken x.0 [] m (ap (λ (rs : List Request). fault_for rs m) (sym x.1) ∙ fault_none)) where
+  by_waits (inr x) = by_kind x.2 (taken x.0 [] m (ap (λ (rs : List Request). fault_of_reply rs m) (sym x.1) ∙ fault_none)) where
     by_kind : KindWaited channels.None past x.0 → IsTaken x.0 m → IsCarried past m
     by_kind (inl k) t =
         let long = t.inline k.0.op k.0.number in
@@ -114,7 +114,7 @@ groups-carried past m g n p s fine came =
       room = λ h. absurd (by_waits (waits_of channels.None past p) h);
     }
   where
-    fault_none : fault_for (answers past).unanswered m ≡ None
+    fault_none : fault_of_reply (answers past).unanswered m ≡ None
     fault_none = taken_first (answers past).fault (answers past).unanswered m fine
 
     left : (answers (Replied m ∷ past)).unanswered ≡ drop 1 (answers past).unanswered

@@ -13,7 +13,7 @@ use Rattle.file_messages.specs.declared.job.Work.TheVariants.{Load, Fetch, Place
 use Rattle.file_messages.specs.declared.job.Completion.{Completion}
 use Rattle.file_messages.specs.declared.job.WorkResult.{WorkResult}
 use Rattle.file_messages.specs.declared.job.WorkResult.TheVariants.{Loaded, Fetched, Placed, Unloaded, Refused}
-use Rattle.file_pasts.specs.ClientPast.{ClientEvent, Group, End, Sent, Replied, Gave, Completed, Received, requests_sent, jobs_given, open_jobs, job_at, token_in, loaded_by, descriptors_on, AnswersJob, IsOfKind}
+use Rattle.file_pasts.specs.ClientPast.{ClientEvent, Group, End, Sent, Replied, Gave, Completed, Received, requests_sent, jobs_given, open_jobs, job_at, token_of_descriptor, loaded_by, descriptors_on, AnswersJob, IsOfKind}
 use Rattle.file_pasts.specs.PutDue.{in_front}
 use Rattle.file_pasts.specs.GetDue.{sent, has_ended, jobs_completed, page_bytes, unloaded_by, pages_back, page_loads, jobs_due, descriptors_loaded, IsGet}
 use Rattle.file_pasts.specs.InStep.{is_load_on, count, count_open}
@@ -87,23 +87,23 @@ flat-back (suc n) number past = ap (λ (t : List ℕ). unloaded_by number past +
 
 -- ---- a page is loaded
 
-loads-other : (n i turn : ℕ) (c : Completion) (d : Descriptor) (past : List ClientEvent) → c.result ≡ Loaded d → (token_in d).page < i
+loads-other : (n i turn : ℕ) (c : Completion) (d : Descriptor) (past : List ClientEvent) → c.result ≡ Loaded d → (token_of_descriptor d).page < i
     → loads_at n i turn (Completed c ∷ past) ≡ loads_at n i turn past
 loads-other zero i turn c d past e h = refl
 loads-other (suc n) i turn c d past e h =
-    let apart : ((token_in d).page == i) ≡ false = grind (arith, nat_tests) in
+    let apart : ((token_of_descriptor d).page == i) ≡ false = grind (arith, nat_tests) in
     let none : loaded_by i c.result ≡ [] = ap (loaded_by i) e ∙ ap (λ (t : Bool). cond t (d ∷ []) []) apart in
     ap (λ (ds : List Descriptor). slice_get (descriptors_on i past ++ ds) turn ∷ loads_at n (i + 1) turn (Completed c ∷ past)) none
     ∙ ap (λ (ds : List Descriptor). slice_get ds turn ∷ loads_at n (i + 1) turn (Completed c ∷ past)) (append-nil (descriptors_on i past))
     ∙ ap (λ (os : List (Option Descriptor)). slice_get (descriptors_on i past) turn ∷ os) (loads-other n (i + 1) turn c d past e (omega arith))
 
-pub loads-set : (n i j : ℕ) (c : Completion) (d : Descriptor) (past : List ClientEvent) → c.result ≡ Loaded d → (token_in d).page ≡ i + j → j < n
-    → length (descriptors_on (token_in d).page past) ≡ sent past
+pub loads-set : (n i j : ℕ) (c : Completion) (d : Descriptor) (past : List ClientEvent) → c.result ≡ Loaded d → (token_of_descriptor d).page ≡ i + j → j < n
+    → length (descriptors_on (token_of_descriptor d).page past) ≡ sent past
     → loads_at n i (sent past) (Completed c ∷ past) ≡ slice_set (loads_at n i (sent past) past) j (Some d)
 loads-set zero i j c d past e p h k = absurd (omega arith)
 loads-set (suc n) i zero c d past e p h k =
-    let same : (token_in d).page ≡ i = omega (arith, p) in
-    let here : ((token_in d).page == i) ≡ true = grind (arith, nat_tests) in
+    let same : (token_of_descriptor d).page ≡ i = omega (arith, p) in
+    let here : ((token_of_descriptor d).page == i) ≡ true = grind (arith, nat_tests) in
     let one : loaded_by i c.result ≡ d ∷ [] = ap (loaded_by i) e ∙ ap (λ (t : Bool). cond t (d ∷ []) []) here in
     let at : length (descriptors_on i past) ≡ sent past = ap (λ (x : ℕ). length (descriptors_on x past)) (sym same) ∙ k in
     ap (λ (ds : List Descriptor). slice_get (descriptors_on i past ++ ds) (sent past) ∷ loads_at n (i + 1) (sent past) (Completed c ∷ past)) one
@@ -111,7 +111,7 @@ loads-set (suc n) i zero c d past e p h k =
     ∙ ap (λ (o : Option Descriptor). o ∷ loads_at n (i + 1) (sent past) (Completed c ∷ past)) (get_added (descriptors_on i past) d)
     ∙ ap (λ (os : List (Option Descriptor)). Some d ∷ os) (loads-other n (i + 1) (sent past) c d past e (omega arith))
 loads-set (suc n) i (suc j) c d past e p h k =
-    let apart : ((token_in d).page == i) ≡ false = grind (arith, nat_tests) in
+    let apart : ((token_of_descriptor d).page == i) ≡ false = grind (arith, nat_tests) in
     let none : loaded_by i c.result ≡ [] = ap (loaded_by i) e ∙ ap (λ (t : Bool). cond t (d ∷ []) []) apart in
     ap (λ (ds : List Descriptor). slice_get (descriptors_on i past ++ ds) (sent past) ∷ loads_at n (i + 1) (sent past) (Completed c ∷ past)) none
     ∙ ap (λ (ds : List Descriptor). slice_get ds (sent past) ∷ loads_at n (i + 1) (sent past) (Completed c ∷ past)) (append-nil (descriptors_on i past))
@@ -224,18 +224,18 @@ none_at (y ∷ ys) n x e h = cc
 
 -- a page that is loaded is loaded for the READ that comes next
 pub record IsLoadTurn (past : List ClientEvent) (d : Descriptor) : Type 0 where
-  pub page : (token_in d).page < 16
+  pub page : (token_of_descriptor d).page < 16
   pub token : 256 ≤ d.token
-  pub turn : length (descriptors_on (token_in d).page past) ≡ sent past
+  pub turn : length (descriptors_on (token_of_descriptor d).page past) ≡ sent past
   pub unawaited : awaits channels.V1 past ≡ false
 
 pub load-turn : (past : List ClientEvent) (number : ℕ) (d : Descriptor) → IsGet channels.V1 past → AnswersJob past (record { number = number; result = Loaded d }) → IsLoadTurn past d
 unfolding Stage is_load_on
 load-turn past number d p a = by_work a.work a.is_open a.fits (rounds_of past p) where
-  unload_load : (e : Descriptor) (t : Work) → t ≡ Unload (token_in e) → IsOfKind t (Loaded d) → ⊥
-  unload_load e t h k = let x : IsOfKind (Unload (token_in e)) (Loaded d) = subst (λ (w : Work). IsOfKind w (Loaded d)) h k in x
+  unload_load : (e : Descriptor) (t : Work) → t ≡ Unload (token_of_descriptor e) → IsOfKind t (Loaded d) → ⊥
+  unload_load e t h k = let x : IsOfKind (Unload (token_of_descriptor e)) (Loaded d) = subst (λ (w : Work). IsOfKind w (Loaded d)) h k in x
 
-  pages_same : (i : ℕ) (work : Work) → work ≡ Load i right.Place (replicate 4096 0) → IsOfKind work (Loaded d) → ((token_in d).page ≡ i) × (256 ≤ d.token)
+  pages_same : (i : ℕ) (work : Work) → work ≡ Load i right.Place (replicate 4096 0) → IsOfKind work (Loaded d) → ((token_of_descriptor d).page ≡ i) × (256 ≤ d.token)
   pages_same i work h k = let f : IsOfKind (Load i right.Place (replicate 4096 0)) (Loaded d) = subst (λ (w : Work). IsOfKind w (Loaded d)) h k in (f.1, f.2)
 
   is_load : (i : ℕ) (work : Work) → work ≡ Load i right.Place (replicate 4096 0) → is_load_on i work ≡ true
@@ -258,21 +258,21 @@ load-turn past number d p a = by_work a.work a.is_open a.fits (rounds_of past p)
     by_stage (inl s) =
         let at = at-loads 16 0 (number - r.base) work (ap (λ (ws : List Work). slice_get ws (number - r.base)) (sym s.works) ∙ u.at) in
         let k2 = pages_same (0 + (number - r.base)) work at.1 k in
-        let small : (token_in d).page < 16 = omega (arith, k2.0, at.0) in
-        let one : 1 ≤ count_open (is_load_on (token_in d).page) (open_jobs past) =
-        counted (is_load_on (token_in d).page) number (open_jobs past) work e (ap (λ (x : ℕ). is_load_on x work) k2.0 ∙ is_load (0 + (number - r.base)) work at.1) in
+        let small : (token_of_descriptor d).page < 16 = omega (arith, k2.0, at.0) in
+        let one : 1 ≤ count_open (is_load_on (token_of_descriptor d).page) (open_jobs past) =
+        counted (is_load_on (token_of_descriptor d).page) number (open_jobs past) work e (ap (λ (x : ℕ). is_load_on x work) k2.0 ∙ is_load (0 + (number - r.base)) work at.1) in
         record {
           page = small;
           token = k2.1;
           turn = omega (
             arith,
             one,
-            r.loads (token_in d).page,
-            r.dues (token_in d).page small,
+            r.loads (token_of_descriptor d).page,
+            r.dues (token_of_descriptor d).page small,
             s.round,
-            r.least s.unended (token_in d).page small,
-            ap (count (is_load_on (token_in d).page)) r.given,
-            count-append (is_load_on (token_in d).page) (jobs_given past) r.rest,
+            r.least s.unended (token_of_descriptor d).page small,
+            ap (count (is_load_on (token_of_descriptor d).page)) r.given,
+            count-append (is_load_on (token_of_descriptor d).page) (jobs_given past) r.rest,
           );
           unawaited = not_less (jobs_completed past) (32 * sent past) (has_ended (requests_sent past)) (omega (arith, s.at, r.done));
         }
@@ -319,7 +319,7 @@ no-other past c p a not_load not_unload = by_work a.work a.is_open a.fits (round
   of_load i (Unloaded bytes) e k = k
   of_load i (Refused status) e k = k
 
-  of_unload : (d : Descriptor) (result : WorkResult) → c.result ≡ result → IsOfKind (Unload (token_in d)) result → ⊥
+  of_unload : (d : Descriptor) (result : WorkResult) → c.result ≡ result → IsOfKind (Unload (token_of_descriptor d)) result → ⊥
   of_unload d (Loaded x) e k = k
   of_unload d (Fetched bytes) e k = k
   of_unload d Placed e k = k

@@ -21,7 +21,7 @@ use Rattle.file_pasts.specs.GetDue.{counts_taken, sum_of, sent, last_count, goes
 use Rattle.file_transfer.specs.declared.loaded_page.LoadedPage.{LoadedPage}
 use Rattle.file_transfer.specs.declared.get_requests.GetRequests.{GetRequests}
 use Rattle.file_transfer.specs.ClientJobs.{after_giving}
-use Rattle.file_transfer.specs.ClientStands.{AskedStand, descriptor_in, pages_named, after_sending}
+use Rattle.file_transfer.specs.ClientStands.{AskedStand, descriptor_in, pages_named, past_after_sending}
 use Rattle.file_transfer.specs.GetStands.{GetStands, may_ask, read_after, after_receiving}
 use Rattle.file_transfer.proofs.GetWaits.{end_known, bytes-bound, sum-append}
 
@@ -80,8 +80,8 @@ read-inline past m pages s h g none =
     ∙ ap (λ (ps : List LoadedPage). Some (read_request 0 (m.asked.sent + 1) m.offset (map descriptor_in ps))) (sym none)
 
 -- where none is due
-pub stand-none : (channel : Channel) (past : List ClientEvent) (P : List ClientEvent → Type 0) → next_request channel past ≡ None → P past → P (after_sending (next_request channel past) past)
-stand-none channel past P e h = subst (λ (o : Option Request). P (after_sending o past)) (sym e) h
+pub stand-none : (channel : Channel) (past : List ClientEvent) (P : List ClientEvent → Type 0) → next_request channel past ≡ None → P past → P (past_after_sending (next_request channel past) past)
+stand-none channel past P e h = subst (λ (o : Option Request). P (past_after_sending o past)) (sym e) h
 
 pub ended-by : (past : List ClientEvent) (r : Request) → (r.op == END) ≡ true → has_ended (requests_sent past ++ r ∷ []) ≡ true
 ended-by past r op = end_known (requests_sent past) r ∙ ap (λ (t : Bool). has_ended (requests_sent past) || t) op ∙ or_true (has_ended (requests_sent past)) where

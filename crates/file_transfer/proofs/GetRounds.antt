@@ -14,7 +14,7 @@ use Rattle.file_messages.specs.declared.job.Work.TheVariants.{Load, Unload}
 use Rattle.file_messages.specs.declared.job.Completion.{Completion}
 use Rattle.file_messages.specs.Messages.{END}
 use Rattle.file_messages.specs.Runs.{end_request}
-use Rattle.file_pasts.specs.ClientPast.{ClientEvent, Group, End, Sent, Replied, Gave, Completed, Received, requests_sent, jobs_given, open_jobs, job_at, without_job, token_in, loaded_by, descriptors_on, fault_for, lasting_or, reply_fault, replied, answers, AnswersJob}
+use Rattle.file_pasts.specs.ClientPast.{ClientEvent, Group, End, Sent, Replied, Gave, Completed, Received, requests_sent, jobs_given, open_jobs, job_at, without_job, token_of_descriptor, loaded_by, descriptors_on, fault_of_reply, lasting_or, reply_fault, replied, answers, AnswersJob}
 use Rattle.file_pasts.specs.PutDue.{in_front, if_taken, unloads_of, unloads_of_first}
 use Rattle.file_pasts.specs.GetDue.{sent, goes_on, has_ended, jobs_completed, page_loads, begins_round, jobs_due, descriptors_loaded, read_request, read_due, counts_taken, sum_of, last_count, IsGet}
 use Rattle.file_pasts.specs.InStep.{is_load_on, one_if, count, count_open}
@@ -99,9 +99,9 @@ at-loads (suc n) i (suc k) work e =
     let later = at-loads n (i + 1) k work e in
     (omega (arith, later.0), later.1 ∙ ap (λ (x : ℕ). Load x right.Place (replicate 4096 0)) (let z : i + 1 + k ≡ i + suc k = omega arith in z))
 
-pub at-unloads : (ds : List Descriptor) (k : ℕ) (work : Work) → slice_get (unloads_of ds) k ≡ Some work → (d : Descriptor) × (work ≡ Unload (token_in d))
+pub at-unloads : (ds : List Descriptor) (k : ℕ) (work : Work) → slice_get (unloads_of ds) k ≡ Some work → (d : Descriptor) × (work ≡ Unload (token_of_descriptor d))
 at-unloads [] k work e = absurd (let b : ⊥ = cc in b)
-at-unloads (d ∷ ds) zero work e = let same : Unload (token_in d) ≡ work = cc in (d, sym same)
+at-unloads (d ∷ ds) zero work e = let same : Unload (token_of_descriptor d) ≡ work = cc in (d, sym same)
 at-unloads (d ∷ ds) (suc k) work e = at-unloads ds k work e
 
 count-loads : (n i page : ℕ) → i ≤ page → page < i + n → count (is_load_on page) (page_loads n i) ≡ 1
@@ -385,7 +385,7 @@ round-replied past m r = by_fault (reply_fault (answers past) m) refl where
   both : {b : Bool} → b ≡ true → b ≡ false → ⊥
   both x y = cc
 
-  none_first : (fault : Option ReplyFault) (rs : List Request) → rs ≡ [] → lasting_or fault (fault_for rs m) ≡ None → ⊥
+  none_first : (fault : Option ReplyFault) (rs : List Request) → rs ≡ [] → lasting_or fault (fault_of_reply rs m) ≡ None → ⊥
   none_first (Some f) rs e h = cc
   none_first None [] e h = cc
   none_first None (x ∷ xs) e h = cc

@@ -11,9 +11,9 @@ use Rattle.file_messages.specs.declared.fault.FileFault.TheVariants.{Short, Op, 
 use Rattle.file_messages.specs.declared.fault.ReplyFault.{ReplyFault}
 use Rattle.file_messages.specs.declared.fault.ReplyFault.TheVariants.{Status}
 use Rattle.file_messages.specs.declared.message.Request.{Request}
-use Rattle.file_messages.specs.Messages.{WRITE, READ, END, asked_by, reply_fields, carries, has_count, fault_in_reply, value_or_fault}
+use Rattle.file_messages.specs.Messages.{WRITE, READ, END, asked_by, reply_fields, carries_bytes, has_count, fault_in_reply, value_or_fault}
 use Rattle.file_messages.specs.Runs.{channel_number, end_request}
-use Rattle.file_pasts.specs.ClientPast.{ClientEvent, Group, End, Sent, Replied, Gave, Completed, Received, requests_sent, fault_for, fault_of_reading, lasting_or, reply_fault, replied, answers, has_failed, are_answered}
+use Rattle.file_pasts.specs.ClientPast.{ClientEvent, Group, End, Sent, Replied, Gave, Completed, Received, requests_sent, fault_of_reply, fault_of_reading, lasting_or, reply_fault, replied, answers, has_failed, are_answered}
 use Rattle.file_pasts.specs.GetDue.{counts_taken, sum_of, sent, goes_on, has_ended, is_between_rounds, jobs_completed, descriptors_loaded, read_request, read_due, next_request, IsGet}
 
 -- ---- what it says that a request is due
@@ -120,7 +120,7 @@ count_end false w rd rest z o p q r h = absurd (let b : ⊥ = cc in b)
 count_end true true rd rest z o p q r h = absurd (let b : ⊥ = cc in b)
 count_end true false true rest z o p q r h = absurd (let b : ⊥ = cc in b)
 
-pub taken : (r : Request) (later : List Request) (m : List ℕ) → fault_for (r ∷ later) m ≡ None → IsTaken r m
+pub taken : (r : Request) (later : List Request) (m : List ℕ) → fault_of_reply (r ∷ later) m ≡ None → IsTaken r m
 unfolding fault_in_reply
 taken r later m e = by_fault (fault_in_reply (asked_by r) m) refl e where
   by_status : (t : Bool) → cond {A = Option ReplyFault} t None (Some (Status (u16_at 2 m))) ≡ None → t ≡ true
@@ -148,24 +148,24 @@ taken r later m e = by_fault (fault_in_reply (asked_by r) m) refl e where
       itself n h = grind (arith, nat_tests)
 
       of_read : (u16_at 2 m == 0) ≡ true → has_count (asked_by r) (reply_fields (asked_by r) m) ≡ true → r.op ≡ READ
-          → (nat_le (u32_at 8 m) r.length ≡ true) × ((r.channel == 0) ≡ true → (length (cond (carries (asked_by r) m) (drop 12 m) []) == u32_at 8 m) ≡ true)
+          → (nat_le (u32_at 8 m) r.length ≡ true) × ((r.channel == 0) ≡ true → (length (cond (carries_bytes (asked_by r) m) (drop 12 m) []) == u32_at 8 m) ≡ true)
       of_read fine counted op =
-          count_read (u16_at 2 m == 0) (r.op == WRITE) (r.op == READ) (nat_le (u32_at 8 m) r.length) (r.channel == 0) (length (cond (carries (asked_by r) m) (drop 12 m) []) == u32_at 8 m)
+          count_read (u16_at 2 m == 0) (r.op == WRITE) (r.op == READ) (nat_le (u32_at 8 m) r.length) (r.channel == 0) (length (cond (carries_bytes (asked_by r) m) (drop 12 m) []) == u32_at 8 m)
           (u32_at 8 m == 0) (u32_at 8 m == r.length) fine (ap (λ (n : ℕ). n == WRITE) op) (ap (λ (n : ℕ). n == READ) op) counted
 
-      in_line : r.op ≡ READ → r.channel ≡ 0 → (length (cond (carries (asked_by r) m) (drop 12 m) []) == u32_at 8 m) ≡ true → (u16_at 2 m == 0) ≡ true → 12 ≤ length m → length m ≡ 12 + u32_at 8 m
+      in_line : r.op ≡ READ → r.channel ≡ 0 → (length (cond (carries_bytes (asked_by r) m) (drop 12 m) []) == u32_at 8 m) ≡ true → (u16_at 2 m == 0) ≡ true → 12 ≤ length m → length m ≡ 12 + u32_at 8 m
       in_line op plain h fine long =
-          let c : carries (asked_by r) m ≡ true =
+          let c : carries_bytes (asked_by r) m ≡ true =
           ap (λ (n : ℕ). n == READ && r.channel == 0 && u16_at 2 m == 0) op ∙ ap (λ (n : ℕ). n == 0 && u16_at 2 m == 0) plain ∙ fine in
           let same : length (drop 12 m) ≡ u32_at 8 m = (let x : (length (drop 12 m) == u32_at 8 m) ≡ true = sym (ap (λ (t : Bool). length (cond t (drop 12 m) []) == u32_at 8 m) c) ∙ h in grind (arith, nat_tests)) in
           omega (arith, same, length-drop 12 m, long)
 
 -- a reply is taken as that of the oldest request
-pub taken_first : (fault : Option ReplyFault) (rs : List Request) (m : List ℕ) → lasting_or fault (fault_for rs m) ≡ None → fault_for rs m ≡ None
+pub taken_first : (fault : Option ReplyFault) (rs : List Request) (m : List ℕ) → lasting_or fault (fault_of_reply rs m) ≡ None → fault_of_reply rs m ≡ None
 taken_first None rs m e = e
 taken_first (Some f) rs m e = absurd (let b : ⊥ = cc in b)
 
-pub none_taken : (rs : List Request) (m : List ℕ) → rs ≡ [] → fault_for rs m ≡ None → ⊥
+pub none_taken : (rs : List Request) (m : List ℕ) → rs ≡ [] → fault_of_reply rs m ≡ None → ⊥
 none_taken [] m e h = cc
 none_taken (x ∷ xs) m e h = cc
 
@@ -245,7 +245,7 @@ bytes-bound channel (Replied m ∷ past) p = by_fault (reply_fault (answers past
       let left : (answers (Replied m ∷ past)).unanswered ≡ [] = ap (λ (o : Option ReplyFault). (replied o (answers past)).unanswered) e ∙ ap (drop 1) x.1 in
       let more : counts_taken (Replied m ∷ past) ≡ counts_taken past ++ u32_at 8 m ∷ [] =
       ap (λ (o : Option ReplyFault). counts_taken past ++ (elim o [ None ↦ u32_at 8 m ∷ [] | Some fault ↦ [] ])) e in
-      let t = taken x.0 [] m (ap (λ (rs : List Request). fault_for rs m) (sym x.1) ∙ taken_first (answers past).fault (answers past).unanswered m e) in
+      let t = taken x.0 [] m (ap (λ (rs : List Request). fault_of_reply rs m) (sym x.1) ∙ taken_first (answers past).fault (answers past).unanswered m e) in
       omega (arith, h, ap length left, ap length x.1, ap sum_of more, sum-append (counts_taken past) (u32_at 8 m), count-taken channel past x.0 m x.2 t)
 bytes-bound channel (Gave work ∷ past) p = bytes-bound channel past p.1
 bytes-bound channel (Completed c ∷ past) p = bytes-bound channel past p.1

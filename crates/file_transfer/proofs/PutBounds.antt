@@ -12,7 +12,7 @@ use Rattle.file_messages.specs.declared.job.Work.{Work}
 use Rattle.file_messages.specs.declared.job.Work.TheVariants.{Load, Fetch, Place, Unload}
 use Rattle.file_messages.specs.declared.job.WorkResult.TheVariants.{Loaded}
 use Rattle.file_messages.specs.Runs.{page_of, turn_of, pages_of, registered_write}
-use Rattle.file_pasts.specs.ClientPast.{ClientEvent, Group, End, Sent, Replied, Gave, Completed, Received, groups_in, is_ended, requests_sent, jobs_given, open_jobs, unloads_on, descriptors_on, page_freed, page_unloaded, token_in, reply_fault, answers, AnswersJob, IsOfKind}
+use Rattle.file_pasts.specs.ClientPast.{ClientEvent, Group, End, Sent, Replied, Gave, Completed, Received, groups_in, is_ended, requests_sent, jobs_given, open_jobs, unloads_on, descriptors_on, page_freed, page_unloaded, token_of_descriptor, reply_fault, answers, AnswersJob, IsOfKind}
 use Rattle.file_pasts.specs.PutDue.{Setup, IsPut, wants_group, are_whole, jobs_due, parts_on, part_on, named_on, is_free, load_of_part, load_after, loads_on_free_pages, unloads_of, unloads_of_first, are_unloaded, groups_on_pages, descriptors_for, in_front, bytes_before}
 use Rattle.file_pasts.specs.InStep.{over, is_load_on, is_unload_on, one_if, count, count_open}
 use Rattle.file_pasts.proofs.InStep.{in_step, given-due, length-parts, count-append, count_open-append, count_open-without}
@@ -457,10 +457,10 @@ few_jobs w past p =
 
 -- a page that is loaded took a part
 pub loaded-parts : (w number : ℕ) (d : Descriptor) (past : List ClientEvent) → IsPut (over w) past → AnswersJob past (record { number = number; result = Loaded d })
-    → 0 < length (parts_on w (token_in d).page past)
+    → 0 < length (parts_on w (token_of_descriptor d).page past)
 unfolding is_load_on one_if
 loaded-parts w number d past p a =
-    let page : ℕ = (token_in d).page in
+    let page : ℕ = (token_of_descriptor d).page in
     let s = in_step w page past p in
     omega (
       arith,
@@ -471,8 +471,8 @@ loaded-parts w number d past p a =
       given-due (is_load_on page) (jobs_due w past) (jobs_given past) s.rest s.given,
     )
   where
-    one_of : (work : Work) → IsOfKind work (Loaded d) → one_if (is_load_on (token_in d).page work) ≡ 1
-    one_of (Load p r bytes) fits = let same : (p == (token_in d).page) ≡ true = (let e : p ≡ (token_in d).page = sym fits.1 in grind (arith, nat_tests)) in ap one_if same
+    one_of : (work : Work) → IsOfKind work (Loaded d) → one_if (is_load_on (token_of_descriptor d).page work) ≡ 1
+    one_of (Load p r bytes) fits = let same : (p == (token_of_descriptor d).page) ≡ true = (let e : p ≡ (token_of_descriptor d).page = sym fits.1 in grind (arith, nat_tests)) in ap one_if same
     one_of (Fetch e) fits = absurd fits
     one_of (Place e bytes) fits = absurd fits
     one_of (Unload t) fits = absurd fits

@@ -21,7 +21,7 @@ use Rattle.file_transfer.specs.ClientJobs.{after_giving}
 use Rattle.file_transfer.specs.PutStands.{RequestsStand}
 use Rattle.file_transfer.specs.PutInlineStands.{InlineStands, without_pages}
 use Rattle.file_transfer.specs.PutRegisteredStands.{RegisteredStand}
-use Rattle.file_transfer.specs.PutPagesStand.{groups_from}
+use Rattle.file_transfer.specs.PutPagesStand.{windows_from}
 use Rattle.file_transfer.specs.PutClientStands.{GroupsCame, InlineCame, RegisteredCame}
 use Rattle.file_transfer.proofs.PutRegisteredLemmas.{under_way-same, stand-refused}
 
@@ -66,7 +66,7 @@ registered-end w past g s = record {
   due = let j = s.due in record { due = j.due; in_turn = j.in_turn; given = j.given; outstanding = j.outstanding };
   kept = s.kept;
   slots = record { each = λ page it at. let old = s.slots.each page it at in record { waiting = old.waiting; fresh = old.fresh; free = old.free; used = old.used; unloads = old.unloads } };
-  under_way = s.under_way ∙ under_way-same past (End ∷ past) (groups_from w 1 (groups_in past)) (record { same = λ page. refl });
+  under_way = s.under_way ∙ under_way-same past (End ∷ past) (windows_from w 1 (groups_in past)) (record { same = λ page. refl });
   count = s.count;
   waiting = s.waiting;
   pool = s.pool;

@@ -13,7 +13,7 @@ use Rattle.file_pasts.proofs.GroupLemmas.{next_of, none_next, total-take-short, 
 use Rattle.file_pasts.proofs.Naming.{all_short}
 use Rattle.file_transfer.specs.declared.put_inline.InlineGroups.{InlineGroups}
 use Rattle.file_transfer.specs.declared.put_requests.PutRequests.{PutRequests}
-use Rattle.file_transfer.specs.ClientStands.{after_sending}
+use Rattle.file_transfer.specs.ClientStands.{past_after_sending}
 use Rattle.file_transfer.specs.PutStands.{RequestsStand, AllSent}
 use Rattle.file_transfer.specs.PutInlineStands.{InlineStands, without_pages}
 
@@ -169,7 +169,7 @@ stand-asked w past g h r message rest s f waiting count size =
 
 -- END is given, or nothing
 pub stand-ended : (past : List ClientEvent) (g h : InlineGroups) (o : Option Request) → InlineStands past g → AllSent past → g.waiting.items ≡ []
-    → h.waiting.items ≡ g.waiting.items → h.count ≡ g.count → h.bytes ≡ g.bytes → InlineStands (after_sending o past) h
+    → h.waiting.items ≡ g.waiting.items → h.count ≡ g.count → h.bytes ≡ g.bytes → InlineStands (past_after_sending o past) h
 stand-ended past g h None s a e waiting count size = record { waiting = waiting ∙ s.waiting; count = count ∙ s.count; bytes = size ∙ s.bytes }
 stand-ended past g h (Some r) s a e waiting count size =
     let none : drop (length (requests_sent past ++ r ∷ [])) (groups_in past) ≡ [] =

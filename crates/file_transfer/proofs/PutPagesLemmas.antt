@@ -11,7 +11,7 @@ use Rattle.file_messages.specs.declared.job.Work.{Work}
 use Rattle.file_messages.specs.declared.job.Work.TheVariants.{Load}
 use Rattle.file_messages.specs.declared.job.WorkResult.TheVariants.{Loaded, Unloaded}
 use Rattle.file_messages.specs.Runs.{pages_of}
-use Rattle.file_pasts.specs.ClientPast.{ClientEvent, Completed, Group, Sent, groups_in, unloads_on, descriptors_on, page_freed, token_in}
+use Rattle.file_pasts.specs.ClientPast.{ClientEvent, Completed, Group, Sent, groups_in, unloads_on, descriptors_on, page_freed, token_of_descriptor}
 use Rattle.file_pasts.specs.PutDue.{jobs_due, parts_on, named_on, is_free, load_of_part, load_after, loads_on_free_pages, part_on, descriptors_for, in_front, names_page}
 use Rattle.file_pasts.specs.InStep.{IsLoadDone, IsUnloadDone, part_at, named_at}
 use Rattle.file_pasts.proofs.NamedPages.{names-pages}
@@ -69,7 +69,7 @@ stand-loaded w number page loaded past m n old new s l at pages waiting fresh fr
       → PageStands w q (Completed (record { number = number; result = Loaded loaded.descriptor }) ∷ past) it
   by_page q it (inl p) =
       let before = s.each page old at in
-      let on : ((token_in loaded.descriptor).page == page) ≡ true = (let h : (token_in loaded.descriptor).page ≡ page = l.on in grind (arith, nat_tests)) in
+      let on : ((token_of_descriptor loaded.descriptor).page == page) ≡ true = (let h : (token_of_descriptor loaded.descriptor).page ≡ page = l.on in grind (arith, nat_tests)) in
       subst (λ (k : ℕ). PageStands w k (Completed (record { number = number; result = Loaded loaded.descriptor }) ∷ past) it) (sym p.0)
       (subst (λ (t : Page). PageStands w page (Completed (record { number = number; result = Loaded loaded.descriptor }) ∷ past) t) (sym p.1)
       (record {
@@ -81,7 +81,7 @@ stand-loaded w number page loaded past m n old new s l at pages waiting fresh fr
       }))
   by_page q it (inr p) =
       let before = s.each q it p.1 in
-      let off : ((token_in loaded.descriptor).page == q) ≡ false = (let h : (token_in loaded.descriptor).page ≡ page = l.on in let apart : page ≡ q → ⊥ = p.0 in grind (arith, nat_tests)) in
+      let off : ((token_of_descriptor loaded.descriptor).page == q) ≡ false = (let h : (token_of_descriptor loaded.descriptor).page ≡ page = l.on in let apart : page ≡ q → ⊥ = p.0 in grind (arith, nat_tests)) in
       record {
         waiting = rw (same_count q) before.waiting;
         fresh = rw (off, append-nil (descriptors_on q past)) before.fresh;

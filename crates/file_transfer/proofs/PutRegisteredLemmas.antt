@@ -33,9 +33,9 @@ use Rattle.file_transfer.specs.declared.put_pages.UnderWay.{UnderWay}
 use Rattle.file_transfer.specs.declared.put_registered.RegisteredGroups.{RegisteredGroups}
 use Rattle.file_transfer.specs.declared.put_requests.PutRequests.{PutRequests}
 use Rattle.file_transfer.specs.ClientJobs.{JobsStand, after_giving}
-use Rattle.file_transfer.specs.ClientStands.{after_sending, first_named, descriptor_in}
+use Rattle.file_transfer.specs.ClientStands.{past_after_sending, first_named, descriptor_in}
 use Rattle.file_transfer.specs.PutStands.{RequestsStand, AllSent}
-use Rattle.file_transfer.specs.PutPagesStand.{SlotsStand, PartsTaken, HasRoomOn, SlotsNamed, all_back, is_back, groups_from, under_way_of, named_total}
+use Rattle.file_transfer.specs.PutPagesStand.{SlotsStand, PartsTaken, HasRoomOn, SlotsNamed, all_back, is_back, windows_from, under_way_of, named_total}
 use Rattle.file_transfer.specs.PutRegisteredStands.{RegisteredStand, JobClosed, size_of}
 use Rattle.file_transfer.proofs.PutBounds.{has_pages, not_back, parts-once, page-within, few_parts, few_groups, few_jobs, loaded-parts, wants_room}
 use Rattle.file_transfer.proofs.PutPagesLemmas.{stand-handed, stand-named, named-none}
@@ -50,12 +50,12 @@ unloaded-is w k i (part ∷ parts) past =
     ap (λ (t : Bool). nat_lt (turn_of w k) (unloads_on (page_of w k i) past) && t)
     (unloaded-is w k (i + 1) parts past ∙ ap (λ (q : ℕ). all_back (turn_of w k) q (length parts) past) next)
 
-under_way-count : (w k : ℕ) (gs : List (List ℕ)) (past : List ClientEvent) → length (under_way_of past (groups_from w k gs)) ≡ groups_on_pages w k gs past
+under_way-count : (w k : ℕ) (gs : List (List ℕ)) (past : List ClientEvent) → length (under_way_of past (windows_from w k gs)) ≡ groups_on_pages w k gs past
 under_way-count w k [] past = refl
 under_way-count w k (g ∷ gs) past =
     by_test (are_unloaded w k 0 (pages_of g) past) (all_back (turn_of w k) (page_of w k 0) (length (pages_of g)) past) (unloaded-is w k 0 (pages_of g) past) (under_way-count w (k + 1) gs past) where
-      by_test : (t u : Bool) → t ≡ u → length (under_way_of past (groups_from w (k + 1) gs)) ≡ groups_on_pages w (k + 1) gs past
-          → length (cond (not u) ((record { first = page_of w k 0; turn = turn_of w k; pages = length (pages_of g) }) ∷ under_way_of past (groups_from w (k + 1) gs)) (under_way_of past (groups_from w (k + 1) gs)))
+      by_test : (t u : Bool) → t ≡ u → length (under_way_of past (windows_from w (k + 1) gs)) ≡ groups_on_pages w (k + 1) gs past
+          → length (cond (not u) ((record { first = page_of w k 0; turn = turn_of w k; pages = length (pages_of g) }) ∷ under_way_of past (windows_from w (k + 1) gs)) (under_way_of past (windows_from w (k + 1) gs)))
           ≡ cond t (groups_on_pages w (k + 1) gs past) (groups_on_pages w (k + 1) gs past + 1)
       by_test true true e h = h
       by_test false false e h = omega (arith, h)
@@ -107,26 +107,26 @@ under_way-more p q (x ∷ xs) s = by_test (is_back p x) refl (under_way-more p q
   by_test false e h = ap (λ (ys : List UnderWay). cond (not (is_back q x)) (x ∷ ys) ys) h
 
 groups-append : (w k : ℕ) (gs : List (List ℕ)) (b : List ℕ)
-    → groups_from w k (gs ++ b ∷ []) ≡ groups_from w k gs ++ (record { first = page_of w (k + length gs) 0; turn = turn_of w (k + length gs); pages = length (pages_of b) }) ∷ []
+    → windows_from w k (gs ++ b ∷ []) ≡ windows_from w k gs ++ (record { first = page_of w (k + length gs) 0; turn = turn_of w (k + length gs); pages = length (pages_of b) }) ∷ []
 groups-append w k [] b = ap (λ (n : ℕ). (record { first = page_of w n 0; turn = turn_of w n; pages = length (pages_of b) }) ∷ []) (let e : k ≡ k + 0 = omega arith in e)
 groups-append w k (g ∷ gs) b =
     ap (λ (xs : List UnderWay). (record { first = page_of w k 0; turn = turn_of w k; pages = length (pages_of g) }) ∷ xs)
     (groups-append w (k + 1) gs b
-    ∙ ap (λ (n : ℕ). groups_from w (k + 1) gs ++ (record { first = page_of w n 0; turn = turn_of w n; pages = length (pages_of b) }) ∷ []) (let e : k + 1 + length gs ≡ k + suc (length gs) = omega arith in e))
+    ∙ ap (λ (n : ℕ). windows_from w (k + 1) gs ++ (record { first = page_of w n 0; turn = turn_of w n; pages = length (pages_of b) }) ∷ []) (let e : k + 1 + length gs ≡ k + suc (length gs) = omega arith in e))
 
 -- each has its pages in the pool
-pub within_pool : (w k n : ℕ) (gs : List (List ℕ)) (past : List ClientEvent) (group : UnderWay) → 0 < w → AreShort gs → slice_get (under_way_of past (groups_from w k gs)) n ≡ Some group
+pub within_pool : (w k n : ℕ) (gs : List (List ℕ)) (past : List ClientEvent) (group : UnderWay) → 0 < w → AreShort gs → slice_get (under_way_of past (windows_from w k gs)) n ≡ Some group
     → group.first + group.pages ≤ 16 * w
 within_pool w k n [] past group some short e = absurd (let b : ⊥ = cc in b)
 within_pool w k n (g ∷ gs) past group some short e =
     by_test (is_back past (record { first = page_of w k 0; turn = turn_of w k; pages = length (pages_of g) })) n e
-    (λ (m : ℕ) (h : slice_get (under_way_of past (groups_from w (k + 1) gs)) m ≡ Some group). within_pool w (k + 1) m gs past group some short.1 h) where
+    (λ (m : ℕ) (h : slice_get (under_way_of past (windows_from w (k + 1) gs)) m ≡ Some group). within_pool w (k + 1) m gs past group some short.1 h) where
       here : page_of w k 0 + length (pages_of g) ≤ 16 * w
       here = let m = mod-lt (k - 1) some in omega (arith, m, few_pages g short.0)
 
       by_test : (t : Bool) (m : ℕ)
-          → slice_get (cond (not t) ((record { first = page_of w k 0; turn = turn_of w k; pages = length (pages_of g) }) ∷ under_way_of past (groups_from w (k + 1) gs)) (under_way_of past (groups_from w (k + 1) gs))) m ≡ Some group
-          → ((j : ℕ) → slice_get (under_way_of past (groups_from w (k + 1) gs)) j ≡ Some group → group.first + group.pages ≤ 16 * w) → group.first + group.pages ≤ 16 * w
+          → slice_get (cond (not t) ((record { first = page_of w k 0; turn = turn_of w k; pages = length (pages_of g) }) ∷ under_way_of past (windows_from w (k + 1) gs)) (under_way_of past (windows_from w (k + 1) gs))) m ≡ Some group
+          → ((j : ℕ) → slice_get (under_way_of past (windows_from w (k + 1) gs)) j ≡ Some group → group.first + group.pages ≤ 16 * w) → group.first + group.pages ≤ 16 * w
       by_test true m h f = f m h
       by_test false zero h f =
           let same : (record { first = page_of w k 0; turn = turn_of w k; pages = length (pages_of g) }) ≡ group = some_same (record { first = page_of w k 0; turn = turn_of w k; pages = length (pages_of g) }) group h in
@@ -174,12 +174,12 @@ stand-taken w first bytes past g h s f at taken kept under_way count waiting poo
       slots = stand-handed w first bytes past h.slots.items h.jobs (few_pages bytes f.2) at taken;
       under_way = under_way
           ∙ ap (λ (xs : List UnderWay). xs ++ (record { first = first; turn = n / w; pages = length (pages_of bytes) }) ∷ []) s.under_way
-          ∙ ap (λ (k : ℕ). under_way_of past (groups_from w 1 (groups_in past)) ++ (record { first = k; turn = n / w; pages = length (pages_of bytes) }) ∷ []) (sym place)
-          ∙ ap (λ (k : ℕ). under_way_of past (groups_from w 1 (groups_in past)) ++ (record { first = page_of w (1 + n) 0; turn = k; pages = length (pages_of bytes) }) ∷ []) (sym turn)
-          ∙ ap (λ (xs : List UnderWay). under_way_of past (groups_from w 1 (groups_in past)) ++ xs) (sym last)
-          ∙ sym (filter-append (λ (u : UnderWay). not (is_back past u)) (groups_from w 1 (groups_in past)) (own ∷ []))
+          ∙ ap (λ (k : ℕ). under_way_of past (windows_from w 1 (groups_in past)) ++ (record { first = k; turn = n / w; pages = length (pages_of bytes) }) ∷ []) (sym place)
+          ∙ ap (λ (k : ℕ). under_way_of past (windows_from w 1 (groups_in past)) ++ (record { first = page_of w (1 + n) 0; turn = k; pages = length (pages_of bytes) }) ∷ []) (sym turn)
+          ∙ ap (λ (xs : List UnderWay). under_way_of past (windows_from w 1 (groups_in past)) ++ xs) (sym last)
+          ∙ sym (filter-append (λ (u : UnderWay). not (is_back past u)) (windows_from w 1 (groups_in past)) (own ∷ []))
           ∙ ap (under_way_of past) (sym (groups-append w 1 (groups_in past) bytes))
-          ∙ under_way-same past (Group bytes ∷ past) (groups_from w 1 (groups_in past ++ bytes ∷ [])) (record { same = λ page. refl });
+          ∙ under_way-same past (Group bytes ∷ past) (windows_from w 1 (groups_in past ++ bytes ∷ [])) (record { same = λ page. refl });
       count = count ∙ ap (λ (k : ℕ). k + 1) s.count ∙ sym (length-append (groups_in past) (bytes ∷ []));
       waiting = waiting ∙ ap (λ (xs : List ℕ). xs ++ length bytes ∷ []) s.waiting
           ∙ sym (map-append size_of (drop (length (requests_sent past)) (groups_in past)) (bytes ∷ []))
@@ -224,7 +224,7 @@ stand-given w past g h o s going e j kept slots under_way count waiting room =
             due = k;
             kept = kept ∙ s.kept;
             slots = gave-slots job.work h.slots.items (subst (SlotsStand w past) (sym slots) s.slots);
-            under_way = under_way ∙ s.under_way ∙ under_way-same past (Gave job.work ∷ past) (groups_from w 1 (groups_in past)) (record { same = λ page. refl });
+            under_way = under_way ∙ s.under_way ∙ under_way-same past (Gave job.work ∷ past) (windows_from w 1 (groups_in past)) (record { same = λ page. refl });
             count = count ∙ s.count;
             waiting = waiting ∙ s.waiting;
             pool = ap length slots ∙ s.pool;
@@ -300,7 +300,7 @@ stand-loaded w number d past g h s slots pool jobs kept under_way count waiting 
       kept = one_less h.jobs.kept (named_total (answers past).unanswered) (kept ∙ s.kept);
       slots = slots;
       under_way = under_way ∙ s.under_way
-          ∙ under_way-same past (Completed (record { number = number; result = Loaded d }) ∷ past) (groups_from w 1 (groups_in past))
+          ∙ under_way-same past (Completed (record { number = number; result = Loaded d }) ∷ past) (windows_from w 1 (groups_in past))
           (record { same = λ page. sym (ap (λ (o : Option ℕ). cond (is_page page o) (unloads_on page past + 1) (unloads_on page past)) none) });
       count = count ∙ s.count;
       waiting = waiting ∙ s.waiting;
@@ -343,7 +343,7 @@ stand-unloaded w number page bytes past g h s freed slots pool jobs kept under_w
   kept = one_less h.jobs.kept (named_total (answers past).unanswered) (kept ∙ s.kept);
   slots = slots;
   under_way = under_way ∙ ap (under_way_of (Completed (record { number = number; result = Unloaded bytes }) ∷ past)) s.under_way
-      ∙ under_way-more past (Completed (record { number = number; result = Unloaded bytes }) ∷ past) (groups_from w 1 (groups_in past))
+      ∙ under_way-more past (Completed (record { number = number; result = Unloaded bytes }) ∷ past) (windows_from w 1 (groups_in past))
       (record { more = λ q. more (is_page q (page_freed (record { number = number; result = Unloaded bytes }) past)) (unloads_on q past) });
   count = count ∙ s.count;
   waiting = waiting ∙ s.waiting;
@@ -385,7 +385,7 @@ stand-other w past c g h a s none other jobs kept slots under_way count waiting 
             };
       };
       under_way = under_way ∙ s.under_way
-          ∙ under_way-same past (Completed c ∷ past) (groups_from w 1 (groups_in past))
+          ∙ under_way-same past (Completed c ∷ past) (windows_from w 1 (groups_in past))
           (record { same = λ page. sym (ap (λ (o : Option ℕ). cond (is_page page o) (unloads_on page past + 1) (unloads_on page past)) freed) });
       count = count ∙ s.count;
       waiting = waiting ∙ s.waiting;
@@ -445,7 +445,7 @@ stand-replied w past message g h s taken jobs kept slots under_way count waiting
             let old = s.slots.each page it (ap (λ (ps : List Page). slice_get ps page) (sym slots) ∙ at) in
             record { waiting = old.waiting; fresh = old.fresh; free = old.free; used = old.used; unloads = old.unloads };
       };
-      under_way = under_way ∙ s.under_way ∙ under_way-same past (Replied message ∷ past) (groups_from w 1 (groups_in past)) (record { same = λ page. refl });
+      under_way = under_way ∙ s.under_way ∙ under_way-same past (Replied message ∷ past) (windows_from w 1 (groups_in past)) (record { same = λ page. refl });
       count = count ∙ s.count;
       waiting = waiting ∙ s.waiting;
       pool = ap length slots ∙ s.pool;
@@ -467,7 +467,7 @@ stand-refused w past message fault g s refused =
       due = let j = subst (λ (ws : List Work). JobsStand ws past g.jobs) due s.due in record { due = j.due; in_turn = j.in_turn; given = j.given; outstanding = j.outstanding };
       kept = s.kept ∙ ap named_total (sym left);
       slots = record { each = λ page it at. let old = s.slots.each page it at in record { waiting = old.waiting; fresh = old.fresh; free = old.free; used = old.used; unloads = old.unloads } };
-      under_way = s.under_way ∙ under_way-same past (Replied message ∷ past) (groups_from w 1 (groups_in past)) (record { same = λ page. refl });
+      under_way = s.under_way ∙ under_way-same past (Replied message ∷ past) (windows_from w 1 (groups_in past)) (record { same = λ page. refl });
       count = s.count;
       waiting = s.waiting;
       pool = s.pool;
@@ -538,7 +538,7 @@ stand-asked w first count past g h r size rest n s due pages named slots jobs ke
       due = record { due = jobs.due; in_turn = jobs.in_turn; given = jobs.given; outstanding = jobs.outstanding };
       kept = kept ∙ ap (λ (k : ℕ). k + length r.descriptors) s.kept ∙ sym (total-append (answers past).unanswered r);
       slots = stand-named w first count past h.slots.items r (pages_of n.group) slots pages named;
-      under_way = under_way ∙ s.under_way ∙ under_way-same past (Sent r ∷ past) (groups_from w 1 (groups_in past)) (record { same = λ page. refl });
+      under_way = under_way ∙ s.under_way ∙ under_way-same past (Sent r ∷ past) (windows_from w 1 (groups_in past)) (record { same = λ page. refl });
       count = counted ∙ s.count;
       waiting = waiting ∙ n.rest_is ∙ ap (λ (k : ℕ). map size_of (drop k (groups_in past))) more;
       pool = pool ∙ s.pool;
@@ -549,7 +549,7 @@ stand-asked w first count past g h r size rest n s due pages named slots jobs ke
 
 -- END is given, or nothing
 pub stand-ended : (w : ℕ) (past : List ClientEvent) (q : PutRequests) (g : RegisteredGroups) (o : Option Request) → RequestsStand (over w) past q → RegisteredStand w past g → AllSent past
-    → next_request (over w) past ≡ o → RegisteredStand w (after_sending o past) g
+    → next_request (over w) past ≡ o → RegisteredStand w (past_after_sending o past) g
 stand-ended w past q g None rs s a e = s
 stand-ended w past q g (Some r) rs s a e =
     let end = end-only (over w) past r a e in
@@ -562,7 +562,7 @@ stand-ended w past q g (Some r) rs s a e =
       due = let j = s.due in record { due = j.due; in_turn = j.in_turn; given = j.given; outstanding = j.outstanding };
       kept = s.kept ∙ (let l : length r.descriptors ≡ 0 = ap length none in omega (arith, l, total-append (answers past).unanswered r));
       slots = stand-named w 0 0 past g.slots.items r [] (subst (λ (k : ℕ). SlotsNamed w 0 k past g.slots.items) (let z : 0 ≡ 0 + 0 = refl in z) (named-none w 0 past g.slots.items s.slots)) refl (ap Some (sym none));
-      under_way = s.under_way ∙ under_way-same past (Sent r ∷ past) (groups_from w 1 (groups_in past)) (record { same = λ page. refl });
+      under_way = s.under_way ∙ under_way-same past (Sent r ∷ past) (windows_from w 1 (groups_in past)) (record { same = λ page. refl });
       count = s.count;
       waiting = s.waiting ∙ ap (map size_of) (empty ∙ sym still);
       pool = s.pool;

@@ -12,7 +12,7 @@ use Rattle.file_transfer.specs.declared.client_requests.Unanswered.{Unanswered}
 use Rattle.file_messages.specs.Runs.{inline_write, registered_write, end_request, page_of, pages_of}
 use Rattle.file_pasts.specs.ClientPast.{ClientEvent, Group, Sent, groups_in, requests_sent, total, has_failed, are_answered}
 use Rattle.file_pasts.specs.PutDue.{Setup, Follows, next_request, write_due, is_finished, bytes_before, descriptors_for}
-use Rattle.file_transfer.specs.ClientStands.{Awaited, AskedStand, awaited_in, awaited_by, after_sending}
+use Rattle.file_transfer.specs.ClientStands.{Awaited, AskedStand, awaited_in, awaited_by, past_after_sending}
 use Rattle.file_transfer.specs.PutStands.{RequestsStand, AllSent, is_over}
 use Rattle.file_pasts.proofs.GroupLemmas.{past_end, are_whole-append, take_whole}
 use Rattle.file_pasts.proofs.PutLaw.{SentCase, sent_case, wants_parts}
@@ -161,8 +161,8 @@ end-due s past m c a h =
 pub failed-none : (s : Setup) (past : List ClientEvent) (m : PutRequests) → RequestsStand s past m → has_failed past ≡ true → next_request s past ≡ None
 failed-none s past m c h = rw h refl
 
-pub stand-none : (s : Setup) (past : List ClientEvent) (m : PutRequests) → RequestsStand s past m → next_request s past ≡ None → RequestsStand s (after_sending (next_request s past) past) m
-stand-none s past m c e = subst (λ (r : Option Request). RequestsStand s (after_sending r past) m) (sym e) c
+pub stand-none : (s : Setup) (past : List ClientEvent) (m : PutRequests) → RequestsStand s past m → next_request s past ≡ None → RequestsStand s (past_after_sending (next_request s past) past) m
+stand-none s past m c e = subst (λ (r : Option Request). RequestsStand s (past_after_sending r past) m) (sym e) c
 
 -- END is due, or nothing
 pub end-none : (s : Setup) (past : List ClientEvent) (m : PutRequests) → RequestsStand s past m → AllSent past → is_over past ≡ false → next_request s past ≡ None

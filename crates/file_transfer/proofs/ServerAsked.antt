@@ -17,7 +17,7 @@ use Rattle.file_pasts.specs.ServerDue.{ServerEvent, Asked, Requests, replies, re
 use Rattle.file_transfer.specs.declared.server.FileServer.{FileServer}
 use Rattle.file_transfer.specs.declared.server_course.Course.{Course}
 use Rattle.file_transfer.specs.declared.server_turn.Start.{Start}
-use Rattle.file_transfer.specs.ServerTurn.{outcomes_so_far, outcomes_of, all_of, total_in, filled_for, IsRequest, AreRequests, AreFitting, StartsAs, jobs_at_start, first_group}
+use Rattle.file_transfer.specs.ServerTurn.{outcomes_so_far, outcomes_of, all_of, total_in, filled_for, IsRequest, AreAsked, AreFitting, StartsAs, jobs_at_start, first_group}
 use Rattle.file_transfer.specs.ServerStands.{CameBy, CourseCame, IsSource, AnswersRequest, lasts, after_request}
 use Rattle.file_transfer.proofs.ServerLists.{get-before, get-last, within, beyond}
 use Rattle.file_transfer.proofs.ServerOutcomes.{outcomes-same, fitting-none}
@@ -51,7 +51,7 @@ came-beside : (kind : CopyKind) (past : List ServerEvent) (m : FileServer) (mess
     → handled kind (Asked message ∷ past) ≡ handled kind past
     → rs.items ≡ drop (length (replies past)) (requests kind (Asked message ∷ past)).accepted → CourseCame kind (Asked message ∷ past) co → f ≡ (requests kind (Asked message ∷ past)).fault
     → length (replies past) ≤ length (requests kind (Asked message ∷ past)).accepted → length (requests kind (Asked message ∷ past)).accepted < 4294967296
-    → AreRequests (requests kind (Asked message ∷ past)).accepted
+    → AreAsked (requests kind (Asked message ∷ past)).accepted
     → CameBy kind (Asked message ∷ past) (record m { waiting = rs; course = co; fault = f })
 came-beside kind past m message rs co f c h waiting course fault replied few read =
     let jobs : jobs_due kind (Asked message ∷ past) ≡ jobs_due kind past = due-asked kind message past h in
@@ -112,7 +112,7 @@ came-with_fault kind past m message f c e =
     (ap (λ (q : Requests). q.fault) (sym e))
     (subst (λ (rs : List Request). length (replies past) ≤ length rs) (sym same) c.in_turn.replied)
     (subst (λ (rs : List Request). length rs < 4294967296) (sym same) c.in_turn.few)
-    (subst (λ (rs : List Request). AreRequests rs) (sym same) c.in_turn.read)
+    (subst (λ (rs : List Request). AreAsked rs) (sym same) c.in_turn.read)
 
 pub came-refused : (kind : CopyKind) (past : List ServerEvent) (m : FileServer) (message : List ℕ) (f : FileFault) → CameBy kind past m
     → judgement kind (requests kind past) (replies past) message ≡ Err f → CameBy kind (Asked message ∷ past) (record m { fault = Some f })
@@ -156,7 +156,7 @@ record Takes (kind : CopyKind) (past : List ServerEvent) (message : List ℕ) (r
   more : (requests kind (Asked message ∷ past)).accepted ≡ (requests kind past).accepted ++ r ∷ []
   longer : length (requests kind (Asked message ∷ past)).accepted ≡ length (requests kind past).accepted + 1
   few : length (requests kind (Asked message ∷ past)).accepted < 4294967296
-  read : AreRequests (requests kind (Asked message ∷ past)).accepted
+  read : AreAsked (requests kind (Asked message ∷ past)).accepted
 
 takes : (kind : CopyKind) (past : List ServerEvent) (m : FileServer) (message : List ℕ) (r : Request) → CameBy kind past m → judgement kind (requests kind past) (replies past) message ≡ Ok r
     → r.id < 4294967296 → Takes kind past message r
@@ -169,7 +169,7 @@ takes kind past m message r c e small =
       more = more;
       longer = longer;
       few = omega (arith, longer, a.next, small);
-      read = subst (λ (rs : List Request). AreRequests rs) (sym more) (AreRequests-append (requests kind past).accepted r c.in_turn.read a.read);
+      read = subst (λ (rs : List Request). AreAsked rs) (sym more) (AreRequests-append (requests kind past).accepted r c.in_turn.read a.read);
     }
 
 -- another one is handled

@@ -11,7 +11,7 @@ use Rattle.file_messages.specs.declared.job.WorkResult.TheVariants.{Loaded, Fetc
 use Rattle.file_messages.specs.declared.job.Completion.{Completion}
 use Rattle.file_messages.specs.Messages.{sum_of_lengths}
 use Rattle.file_pasts.specs.ServerDue.{ServerEvent, Completed, result_at, result_in_front, results_from, status_in, status_of, fetched, Fits}
-use Rattle.file_transfer.specs.ServerTurn.{outcomes_of, all_of, status_then, status_from, fetched_in, outcome_bytes, FitsIfThere, AreFitting, bytes_in, total_in}
+use Rattle.file_transfer.specs.ServerTurn.{outcomes_of, all_of, status_then, status_from, fetched_in, outcome_bytes, FitsIfThere, AreFitting, bytes_fetched_by, total_in}
 
 pub results-all : (n : ℕ) (jobs : List Work) (past : List ServerEvent) → results_from n jobs past ≡ all_of (outcomes_of n jobs past)
 results-all n [] past = refl
@@ -127,12 +127,12 @@ bytes-fit [] [] h = omega arith
 bytes-fit [] (o ∷ os) h = absurd h
 bytes-fit (w ∷ ws) [] h = absurd h
 bytes-fit (w ∷ ws) (o ∷ os) h = omega (arith, one w o h.0, bytes-fit ws os h.1) where
-  one : (w : Work) (o : Option WorkResult) → FitsIfThere w o → length (fetched_in o) ≤ bytes_in w
+  one : (w : Work) (o : Option WorkResult) → FitsIfThere w o → length (fetched_in o) ≤ bytes_fetched_by w
   one w None h = omega arith
-  one w (Some (Loaded d)) h = at_least (bytes_in w)
-  one w (Some Placed) h = at_least (bytes_in w)
-  one w (Some (Unloaded bytes)) h = at_least (bytes_in w)
-  one w (Some (Refused status)) h = at_least (bytes_in w)
+  one w (Some (Loaded d)) h = at_least (bytes_fetched_by w)
+  one w (Some Placed) h = at_least (bytes_fetched_by w)
+  one w (Some (Unloaded bytes)) h = at_least (bytes_fetched_by w)
+  one w (Some (Refused status)) h = at_least (bytes_fetched_by w)
   one (Fetch d) (Some (Fetched bytes)) h = omega (arith, h)
   one (Load page right bytes) (Some (Fetched got)) h = absurd h
   one (Place d bytes) (Some (Fetched got)) h = absurd h

@@ -9,7 +9,7 @@ use Rattle.file_messages.specs.declared.job.WorkResult.{WorkResult}
 use Rattle.file_messages.specs.Messages.{refusal}
 use Rattle.file_pasts.specs.ServerDue.{ServerEvent, replies, requests, handled, standing_status, source_in_hand, jobs_given, jobs_in_hand, jobs_due, jobs_of, jobs_if_handled, results, group_in_hand, group_if_handled, group_of, next_reply, reply_if_handled, answer_with}
 use Rattle.file_transfer.specs.declared.server.FileServer.{FileServer}
-use Rattle.file_transfer.specs.ServerTurn.{outcomes_so_far, all_of, IsRequest, AreRequests}
+use Rattle.file_transfer.specs.ServerTurn.{outcomes_so_far, all_of, IsRequest, AreAsked}
 use Rattle.file_transfer.specs.ServerStands.{CameBy}
 use Rattle.file_transfer.proofs.ServerLists.{next_at, none_at}
 use Rattle.file_transfer.proofs.ServerOutcomes.{results-all}
@@ -71,7 +71,7 @@ has_jobs kind past place work e = by_handled (handled kind past) refl where
     by_status false s = absurd (let none : slice_get (cond false (jobs_of r past) []) place ≡ Some work =
         ap (λ (t : Bool). slice_get (cond t (jobs_of r past) []) place) (sym s) ∙ ap (λ (o : Option Request). slice_get (jobs_if_handled kind o past) place) (sym h) ∙ e in let b : ⊥ = cc in b)
 
-pub request_at : (n : ℕ) (rs : List Request) (r : Request) → AreRequests rs → slice_get rs n ≡ Some r → IsRequest r
+pub request_at : (n : ℕ) (rs : List Request) (r : Request) → AreAsked rs → slice_get rs n ≡ Some r → IsRequest r
 request_at n [] r q e = absurd (let b : ⊥ = cc in b)
 request_at zero (x ∷ rs) r q e = let same : x ≡ r = cc in subst (λ (y : Request). IsRequest y) same q.0
 request_at (suc n) (x ∷ rs) r q e = request_at n rs r q.1 e

@@ -12,7 +12,7 @@ use Rattle.file_messages.specs.declared.message.Reply.{Reply}
 use Rattle.file_messages.specs.declared.job.Work.{Work}
 use Rattle.file_messages.specs.declared.job.WorkResult.{WorkResult}
 use Rattle.file_messages.specs.Messages.{WRITE, READ, reply_bytes, success, refusal}
-use Rattle.file_pasts.specs.ServerDue.{ServerEvent, Replied, replies, requests, handled, counted, first_status, standing_status, source_in_hand, jobs_given, jobs_due, next_reply, read_reply, answer_of, status_of, group_in_hand, groups_replied, groups_stored, result_at}
+use Rattle.file_pasts.specs.ServerDue.{ServerEvent, Replied, replies, requests, handled, counted, first_status, standing_status, source_in_hand, jobs_given, jobs_due, next_reply, read_reply, reply_by_works, status_of, group_in_hand, groups_replied, groups_stored, result_at}
 use Rattle.file_transfer.specs.declared.server.FileServer.{FileServer}
 use Rattle.file_transfer.specs.declared.server_turn.Filled.{Filled}
 use Rattle.file_transfer.specs.declared.server_turn.Start.{Start}
@@ -54,9 +54,9 @@ of_success r source false false o reply w x s e =
     let same : success r 0 [] ≡ reply = cc in
     subst (λ (y : Reply). IsReplyOf r source y) same (plain refl (at_least r.length) (λ z. absurd (let b : ⊥ = cc in b)))
 
-of_answer : (r : Request) (source : Option (List ℕ)) (works : List WorkResult) (reply : Reply) → answer_of r source works ≡ Some reply → IsReplyOf r source reply
+of_answer : (r : Request) (source : Option (List ℕ)) (works : List WorkResult) (reply : Reply) → reply_by_works r source works ≡ Some reply → IsReplyOf r source reply
 of_answer r source works reply e = by_status (status_of works == 0) refl e where
-  by_status : (t : Bool) → (status_of works == 0) ≡ t → answer_of r source works ≡ Some reply → IsReplyOf r source reply
+  by_status : (t : Bool) → (status_of works == 0) ≡ t → reply_by_works r source works ≡ Some reply → IsReplyOf r source reply
   by_status false s a =
       let it : Some (refusal r (status_of works)) ≡ Some reply = ap (λ (t : Bool). cond (not t) (Some (refusal r (status_of works)))
       (cond (r.op == WRITE) (Some (success r r.length [])) (cond (r.op == READ) (option_map (read_reply r) source) (Some (success r 0 []))))) (sym s) ∙ a in

@@ -6,7 +6,7 @@ use Rattle.file_messages.specs.declared.message.Request.{Request}
 use Rattle.file_messages.specs.declared.message.Reply.{Reply}
 use Rattle.file_messages.specs.declared.job.WorkResult.{WorkResult}
 use Rattle.file_messages.specs.Messages.{WRITE, READ, success}
-use Rattle.file_pasts.specs.ServerDue.{ServerEvent, replies, requests, standing_status, source_in_hand, source_for, wants_source, next_reply, answer_of, answer_with, read_reply, status_of}
+use Rattle.file_pasts.specs.ServerDue.{ServerEvent, replies, requests, standing_status, source_in_hand, source_for, wants_source, next_reply, reply_by_works, answer_with, read_reply, status_of}
 use Rattle.file_transfer.specs.declared.server.FileServer.{FileServer}
 use Rattle.file_transfer.specs.declared.server_turn.Filled.{Filled}
 use Rattle.file_transfer.specs.ServerTurn.{outcomes_so_far, all_of, filled_for, filled_with, IsRequest, header_in, header_of, header_with}
@@ -50,7 +50,7 @@ header-answer : (r : Request) (source : Option (List ℕ)) (works : Option (List
     → option_map header_in (answer_with r source works) ≡ header_with r (option_map (filled_with r) source) (option_map status_of works)
 header-answer r source None = refl
 header-answer r source (Some works) = by_status (status_of works == 0) refl where
-  by_status : (t : Bool) → (status_of works == 0) ≡ t → option_map header_in (answer_of r source works) ≡ header_with r (option_map (filled_with r) source) (Some (status_of works))
+  by_status : (t : Bool) → (status_of works == 0) ≡ t → option_map header_in (reply_by_works r source works) ≡ header_with r (option_map (filled_with r) source) (Some (status_of works))
   by_status false e = rw e refl
   by_status true e = rw e (by_op (r.op == WRITE) (r.op == READ) source) where
     by_op : (w d : Bool) (source : Option (List ℕ))

@@ -10,8 +10,8 @@ use Rattle.file_messages.specs.declared.fault.FileFault.TheVariants.{Short, Op, 
 use Rattle.file_messages.specs.declared.message.Request.{Request}
 use Rattle.file_messages.specs.declared.message.Reply.{Reply}
 use Rattle.file_messages.specs.Messages.{WRITE, READ, END, request_of, request_fault, request_fields, value_or_fault, is_short, is_op, is_count, counts_well, has_length, lists_descriptors, descriptors_in, sum_of_lengths, are_sound, overlap}
-use Rattle.file_pasts.specs.ServerDue.{Requests, judgement, judged, judged_after, is_out_of_turn, has_ended, written}
-use Rattle.file_transfer.specs.ServerTurn.{IsRequest, AreRequests, is_fetched}
+use Rattle.file_pasts.specs.ServerDue.{Requests, judgement, judged, judged_after, is_out_of_order, has_ended, written}
+use Rattle.file_transfer.specs.ServerTurn.{IsRequest, AreAsked, is_fetched}
 
 -- the tests that a request passed
 record Passes (bytes : List ℕ) : Type 0 where
@@ -149,7 +149,7 @@ pub record IsAccepted (kind : CopyKind) (q : Requests) (given : List Reply) (mes
 
 pub accepted : (kind : CopyKind) (q : Requests) (given : List Reply) (message : List ℕ) (r : Request) → judgement kind q given message ≡ Ok r → IsAccepted kind q given message r
 accepted kind q given message r e = by_fault q.fault refl e where
-  in_turn : (x : Request) → is_out_of_turn kind q.accepted given x ≡ false → x.id ≡ length q.accepted + 1
+  in_turn : (x : Request) → is_out_of_order kind q.accepted given x ≡ false → x.id ≡ length q.accepted + 1
   in_turn x h = by_kind kind h where
     by_late : (a b c d : Bool) → (((not a || b) || c) || d) ≡ false → a ≡ true
     by_late true b c d h = refl
@@ -162,14 +162,14 @@ accepted kind q given message r e = by_fault q.fault refl e where
     equal : (m n : ℕ) → (m == n) ≡ true → m ≡ n
     equal m n h = grind (arith, nat_tests)
 
-    by_kind : (k : CopyKind) → is_out_of_turn k q.accepted given x ≡ false → x.id ≡ length q.accepted + 1
+    by_kind : (k : CopyKind) → is_out_of_order k q.accepted given x ≡ false → x.id ≡ length q.accepted + 1
     by_kind kinds.Put h = equal x.id (length q.accepted + 1) (by_late _ _ _ _ h)
     by_kind kinds.Get h = equal x.id (length q.accepted + 1) (by_late_too _ _ _ _ _ h)
 
   by_read : (o : Result Request FileFault) → request_of message ≡ o → q.fault ≡ None → judged kind q.accepted given o ≡ Ok r → IsAccepted kind q given message r
   by_read (Err fault) h f e = absurd (let b : ⊥ = cc in b)
-  by_read (Ok x) h f e = by_turn (is_out_of_turn kind q.accepted given x) refl e where
-    by_turn : (t : Bool) → is_out_of_turn kind q.accepted given x ≡ t → cond t (Err Order) (Ok x) ≡ Ok r → IsAccepted kind q given message r
+  by_read (Ok x) h f e = by_turn (is_out_of_order kind q.accepted given x) refl e where
+    by_turn : (t : Bool) → is_out_of_order kind q.accepted given x ≡ t → cond t (Err Order) (Ok x) ≡ Ok r → IsAccepted kind q given message r
     by_turn true t e = absurd (let b : ⊥ = cc in b)
     by_turn false t e =
         let same : x ≡ r = cc in
@@ -181,7 +181,7 @@ accepted kind q given message r e = by_fault q.fault refl e where
 
 -- ---- lists of them
 
-pub AreRequests-append : (rs : List Request) (r : Request) → AreRequests rs → IsRequest r → AreRequests (rs ++ r ∷ [])
+pub AreRequests-append : (rs : List Request) (r : Request) → AreAsked rs → IsRequest r → AreAsked (rs ++ r ∷ [])
 AreRequests-append [] r q h = (h, tt)
 AreRequests-append (x ∷ rs) r q h = (q.0, AreRequests-append rs r q.1 h)
 
@@ -199,7 +199,7 @@ pub written-append : (rs : List Request) (r : Request) → written (rs ++ r ∷ 
 written-append [] r = omega arith
 written-append (x ∷ rs) r = omega (arith, written-append rs r)
 
-pub written-short : (rs : List Request) → AreRequests rs → written rs ≤ 65536 * length rs
+pub written-short : (rs : List Request) → AreAsked rs → written rs ≤ 65536 * length rs
 written-short [] q = omega arith
 written-short (x ∷ rs) q = omega (arith, one (x.op == WRITE), written-short rs q.1) where
   one : (t : Bool) → cond t x.length 0 ≤ 65536

@@ -43,9 +43,9 @@ pub record AskedStand (past : List ClientEvent) (q : ClientRequests) : Type 0 wh
   pub sent : q.sent ≡ length (requests_sent past)
   pub fault : q.fault ≡ (answers past).fault
 
-abbrev pub after_sending : Option Request → List ClientEvent → List ClientEvent
-after_sending None past = past
-after_sending (Some r) past = Sent r ∷ past
+abbrev pub past_after_sending : Option Request → List ClientEvent → List ClientEvent
+past_after_sending None past = past
+past_after_sending (Some r) past = Sent r ∷ past
 
 abbrev pub with_error : {A : Type 0} → Result A ReplyFault → Option ReplyFault
 with_error (Ok value) = None

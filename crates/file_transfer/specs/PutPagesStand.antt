@@ -64,10 +64,10 @@ abbrev pub is_back : List ClientEvent → UnderWay → Bool
 is_back past group = all_back group.turn group.first group.pages past
 
 -- the pages of these groups, the first of them the k-th
-abbrev pub groups_from : ℕ → ℕ → List (List ℕ) → List UnderWay
-groups_from w k [] = []
-groups_from w k (group ∷ groups) =
-    (record { first = page_of w k 0; turn = turn_of w k; pages = length (pages_of group) }) ∷ groups_from w (k + 1) groups
+abbrev pub windows_from : ℕ → ℕ → List (List ℕ) → List UnderWay
+windows_from w k [] = []
+windows_from w k (group ∷ groups) =
+    (record { first = page_of w k 0; turn = turn_of w k; pages = length (pages_of group) }) ∷ windows_from w (k + 1) groups
 
 -- of these groups those whose pages are not all unloaded
 abbrev pub under_way_of : List ClientEvent → List UnderWay → List UnderWay

@@ -10,7 +10,7 @@ use Rattle.file_transfer.specs.declared.put_registered.RegisteredGroups.{Registe
 use Rattle.file_transfer.specs.declared.put_requests.PutRequests.{PutRequests}
 use Rattle.file_transfer.specs.ClientJobs.{JobsStand}
 use Rattle.file_transfer.specs.PutStands.{RequestsStand}
-use Rattle.file_transfer.specs.PutPagesStand.{SlotsStand, groups_from, under_way_of, named_total}
+use Rattle.file_transfer.specs.PutPagesStand.{SlotsStand, windows_from, under_way_of, named_total}
 
 -- how many bytes a group has
 abbrev pub size_of : List ℕ → ℕ
@@ -22,7 +22,7 @@ pub record RegisteredStand (w : ℕ) (past : List ClientEvent) (g : RegisteredGr
   pub due : JobsStand (jobs_due w past) past g.jobs
   pub kept : g.jobs.kept ≡ named_total (answers past).unanswered
   pub slots : SlotsStand w past g.slots.items
-  pub under_way : g.under_way.items ≡ under_way_of past (groups_from w 1 (groups_in past))
+  pub under_way : g.under_way.items ≡ under_way_of past (windows_from w 1 (groups_in past))
   pub count : g.count ≡ length (groups_in past)
   pub waiting : g.waiting.items ≡ map size_of (drop (length (requests_sent past)) (groups_in past))
   pub pool : length g.slots.items ≡ 16 * w
@@ -68,7 +68,7 @@ pub record JobClosed (w : ℕ) (past : List ClientEvent) (c : Completion) (g : R
   pub due : JobsStand (jobs_due w past) (Completed c ∷ past) g.jobs
   pub kept : g.jobs.kept ≡ named_total (answers past).unanswered + 1
   pub slots : SlotsStand w past g.slots.items
-  pub under_way : g.under_way.items ≡ under_way_of past (groups_from w 1 (groups_in past))
+  pub under_way : g.under_way.items ≡ under_way_of past (windows_from w 1 (groups_in past))
   pub count : g.count ≡ length (groups_in past)
   pub waiting : g.waiting.items ≡ map size_of (drop (length (requests_sent past)) (groups_in past))
   pub pool : length g.slots.items ≡ 16 * w

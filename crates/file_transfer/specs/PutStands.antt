@@ -17,8 +17,8 @@ pub record RequestsStand (s : Setup) (past : List ClientEvent) (q : PutRequests)
 pub record AllSent (past : List ClientEvent) : Type 0 where
   pub all : length (groups_in past) ≤ length (requests_sent past)
 
-abbrev pub goes_on : List ClientEvent → Bool
-goes_on past = not (is_ended past) && are_whole (groups_in past)
+abbrev pub takes_groups : List ClientEvent → Bool
+takes_groups past = not (is_ended past) && are_whole (groups_in past)
 
 -- the groups have ended, END was not given, and each request has its reply
 abbrev pub is_over : List ClientEvent → Bool

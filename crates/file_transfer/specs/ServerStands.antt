@@ -14,7 +14,7 @@ use Rattle.file_pasts.specs.ServerDue.{ServerEvent, Asked, Gave, Replied, Stored
 use Rattle.file_transfer.specs.declared.server_turn.Turn.{Turn}
 use Rattle.file_transfer.specs.declared.server_course.Course.{Course}
 use Rattle.file_transfer.specs.declared.server.FileServer.{FileServer}
-use Rattle.file_transfer.specs.ServerTurn.{outcomes_so_far, all_of, total_in, filled_for, AreRequests, AreFitting}
+use Rattle.file_transfer.specs.ServerTurn.{outcomes_so_far, all_of, total_in, filled_for, AreAsked, AreFitting}
 
 -- bytes are there only for a READ that is handled, and at most so many as it asks for
 abbrev pub IsSource : Option Request → Option (List ℕ) → Type 0
@@ -35,7 +35,7 @@ pub record IsInTurn (kind : CopyKind) (past : List ServerEvent) : Type 0 where
   pub given : jobs_given past ≤ 16 * length (replies past) + jobs_in_hand past
   pub ahead : (n : ℕ) → jobs_given past ≤ n → result_at n past ≡ None
   pub counts : counted (replies past) ≤ 65536 * length (replies past)
-  pub read : AreRequests (requests kind past).accepted
+  pub read : AreAsked (requests kind past).accepted
   pub fitting : AreFitting (jobs_due kind past) (outcomes_so_far kind past)
 
 -- the request that is handled stands so

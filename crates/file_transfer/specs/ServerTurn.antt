@@ -61,13 +61,13 @@ AreFitting (work ∷ later) (o ∷ os) = FitsIfThere work o × AreFitting later 
 AreFitting works os = ⊥
 
 -- how many bytes a Fetch is to bring
-abbrev pub bytes_in : Work → ℕ
-bytes_in (Fetch d) = d.length
-bytes_in work = 0
+abbrev pub bytes_fetched_by : Work → ℕ
+bytes_fetched_by (Fetch d) = d.length
+bytes_fetched_by work = 0
 
 abbrev pub total_in : List Work → ℕ
 total_in [] = 0
-total_in (work ∷ later) = bytes_in work + total_in later
+total_in (work ∷ later) = bytes_fetched_by work + total_in later
 
 -- ---- the turn of a request
 
@@ -83,9 +83,9 @@ pub record IsRequest (r : Request) : Type 0 where
   pub plain : (r.op == WRITE && r.channel == 0) ≡ true → r.descriptors ≡ []
   pub whole : is_fetched r ≡ true → sum_of_lengths r.descriptors ≡ r.length
 
-abbrev pub AreRequests : List Request → Type 0
-AreRequests [] = Unit {0}
-AreRequests (r ∷ rs) = IsRequest r × AreRequests rs
+abbrev pub AreAsked : List Request → Type 0
+AreAsked [] = Unit {0}
+AreAsked (r ∷ rs) = IsRequest r × AreAsked rs
 
 -- the jobs that are due as soon as it is handled, where each later request is answered with this status
 abbrev pub first_jobs : ℕ → Request → List Work

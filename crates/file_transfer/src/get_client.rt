@@ -6,7 +6,7 @@ ghost use Rattle.file_messages.specs.Messages.{request_bytes};
 ghost use Rattle.file_pasts.specs.ClientPast.{ClientEvent, Completed, Replied, AnswersJob, reply_fault, answers};
 ghost use Rattle.file_pasts.specs.GetDue.{next_request, next_job, next_group, is_finished};
 ghost use Rattle.file_transfer.specs.ClientJobs.{after_giving};
-ghost use Rattle.file_transfer.specs.ClientStands.{after_sending, with_error};
+ghost use Rattle.file_transfer.specs.ClientStands.{past_after_sending, with_error};
 ghost use Rattle.file_transfer.specs.GetStands.{after_receiving};
 ghost use Rattle.file_transfer.specs.GetClientStands.{RoundsIfAny, CameBy, HasCome, MayComplete, MaySend};
 
@@ -79,7 +79,7 @@ impl GetClient {
     pub fn next_message(&mut self) -> Result<Option<Message>, NoMemory>
         requires { MaySend self.old }
         ensures due { (channel : Channel) (past : List ClientEvent) → CameBy channel past self.old → IfOk result (λ m. m ≡ option_map request_bytes (next_request channel past)) }
-        ensures after { (channel : Channel) (past : List ClientEvent) → CameBy channel past self.old → OnOk result (CameBy channel (after_sending (next_request channel past) past) self.new) }
+        ensures after { (channel : Channel) (past : List ClientEvent) → CameBy channel past self.old → OnOk result (CameBy channel (past_after_sending (next_request channel past) past) self.new) }
         ensures same { (channel : Channel) (past : List ClientEvent) → CameBy channel past self.old → OnErr result (CameBy channel past self.new) }
     {
         match &mut self.rounds {

@@ -5,7 +5,7 @@ ghost use Rattle.file_messages.specs.declared.kind.Channel.TheVariants as channe
 ghost use Rattle.file_messages.specs.Messages.{request_bytes};
 ghost use Rattle.file_pasts.specs.ClientPast.{ClientEvent, Replied, answers, reply_fault};
 ghost use Rattle.file_pasts.specs.GetDue.{IsGet, next_request};
-ghost use Rattle.file_transfer.specs.ClientStands.{after_sending};
+ghost use Rattle.file_transfer.specs.ClientStands.{past_after_sending};
 ghost use Rattle.file_transfer.specs.GetStands.{GroupsStand};
 ghost use Rattle.file_transfer.specs.GetClientStands.{InlineGetStands, MayAskInline, MayTakeReply};
 
@@ -28,7 +28,7 @@ pub fn next_inline(
     ensures due { (past : List ClientEvent) → InlineGetStands past requests.old groups.old
         → IfOk result (λ m. m ≡ option_map request_bytes (next_request channels.None past)) }
     ensures after { (past : List ClientEvent) → InlineGetStands past requests.old groups.old
-        → OnOk result (InlineGetStands (after_sending (next_request channels.None past) past) requests.new groups.new) }
+        → OnOk result (InlineGetStands (past_after_sending (next_request channels.None past) past) requests.new groups.new) }
     ensures same { (past : List ClientEvent) → InlineGetStands past requests.old groups.old
         → OnErr result (InlineGetStands past requests.new groups.new) }
 {

@@ -7,7 +7,7 @@ ghost use Rattle.file_messages.specs.Messages.{request_bytes};
 ghost use Rattle.file_pasts.specs.ClientPast.{ClientEvent, Completed, Replied, AnswersJob, answers, reply_fault, has_failed};
 ghost use Rattle.file_pasts.specs.GetDue.{next_job, next_request, some_bytes};
 ghost use Rattle.file_transfer.specs.ClientJobs.{JobsStand, after_giving};
-ghost use Rattle.file_transfer.specs.ClientStands.{after_sending, descriptor_in, first_named};
+ghost use Rattle.file_transfer.specs.ClientStands.{past_after_sending, descriptor_in, first_named};
 ghost use Rattle.file_transfer.specs.GetStands.{HasRoom};
 ghost use Rattle.file_transfer.specs.GetPagesStand.{RoundsStand, back_in, sizes};
 ghost use Rattle.file_transfer.specs.GetRegisteredStands.{RegisteredGetStands, MayGive, MayAsk, MayComplete, loads_after, are_back as are_back_by};
@@ -92,7 +92,7 @@ pub fn next_registered(
     ensures due { (past : List ClientEvent) → RegisteredGetStands past requests.old groups.old rounds.old
         → IfOk result (λ m. m ≡ option_map request_bytes (next_request channels.V1 past)) }
     ensures after { (past : List ClientEvent) → RegisteredGetStands past requests.old groups.old rounds.old
-        → OnOk result (RegisteredGetStands (after_sending (next_request channels.V1 past) past) requests.new groups.new rounds.new) }
+        → OnOk result (RegisteredGetStands (past_after_sending (next_request channels.V1 past) past) requests.new groups.new rounds.new) }
     ensures same { (past : List ClientEvent) → RegisteredGetStands past requests.old groups.old rounds.old
         → OnErr result (RegisteredGetStands past requests.new groups.new rounds.new) }
 {

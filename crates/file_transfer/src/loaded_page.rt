@@ -13,11 +13,11 @@ pub struct LoadedPage {
 }
 
 impl LoadedPage {
-    ghost use Rattle.file_pasts.specs.ClientPast.{token_in};
+    ghost use Rattle.file_pasts.specs.ClientPast.{token_of_descriptor};
 
     /// The token that names the page.
     pub fn token(&self) -> Token
-        ensures { result ≡ token_in self.now.descriptor }
+        ensures { result ≡ token_of_descriptor self.now.descriptor }
     {
         let Some(token) = Token::from_number(self.descriptor.token) else {
             unreachable!();

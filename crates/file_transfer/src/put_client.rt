@@ -6,7 +6,7 @@ ghost use Rattle.file_pasts.specs.ClientPast.{ClientEvent, Group, End, Completed
 ghost use Rattle.file_pasts.specs.PutDue.{Setup, IsPut, Follows, wants_group, has_room, next_request, next_job, is_finished};
 ghost use Rattle.file_pasts.specs.PutLaws.{put_over};
 ghost use Rattle.file_transfer.specs.ClientJobs.{after_giving};
-ghost use Rattle.file_transfer.specs.ClientStands.{after_sending, with_error, descriptor_in, first_named};
+ghost use Rattle.file_transfer.specs.ClientStands.{past_after_sending, with_error, descriptor_in, first_named};
 ghost use Rattle.file_transfer.specs.PutClientStands.{GroupsCame, MayTakeGroup, MayGiveJob, MayCompleteJob, MayUnloadPages, CameBy, HasCome, MayHand, MayComplete, MaySend};
 
 use crate::loaded_page::LoadedPage;
@@ -184,7 +184,7 @@ impl PutClient {
     pub fn next_message(&mut self) -> Result<Option<Message>, NoMemory>
         requires { MaySend self.old }
         ensures due { (s : Setup) (past : List ClientEvent) → CameBy s past self.old → IfOk result (λ m. m ≡ option_map request_bytes (next_request s past)) }
-        ensures after { (s : Setup) (past : List ClientEvent) → CameBy s past self.old → OnOk result (CameBy s (after_sending (next_request s past) past) self.new) }
+        ensures after { (s : Setup) (past : List ClientEvent) → CameBy s past self.old → OnOk result (CameBy s (past_after_sending (next_request s past) past) self.new) }
         ensures same { (s : Setup) (past : List ClientEvent) → CameBy s past self.old → OnErr result (CameBy s past self.new) }
     {
         match &mut self.groups {

@@ -4,7 +4,7 @@ ghost use Rattle.std.specs.Prelude.{◌≡◌, ◌+◌, ◌-◌, ◌^◌, ◌<�
 ghost use Rattle.file_messages.specs.Messages.{request_bytes};
 ghost use Rattle.file_pasts.specs.ClientPast.{ClientEvent, Group, groups_in, requests_sent};
 ghost use Rattle.file_pasts.specs.PutDue.{next_request};
-ghost use Rattle.file_transfer.specs.ClientStands.{after_sending};
+ghost use Rattle.file_transfer.specs.ClientStands.{past_after_sending};
 ghost use Rattle.file_transfer.specs.PutInlineStands.{InlineStands, InlinePutStands, MayAskInline, without_pages};
 
 use crate::client_requests::Unanswered;
@@ -71,7 +71,7 @@ pub fn next_inline(
     ensures due { (w : ℕ) (past : List ClientEvent) → InlinePutStands w past requests.old groups.old
         → IfOk result (λ m. m ≡ option_map request_bytes (next_request (without_pages w) past)) }
     ensures after { (w : ℕ) (past : List ClientEvent) → InlinePutStands w past requests.old groups.old
-        → OnOk result (InlinePutStands w (after_sending (next_request (without_pages w) past) past) requests.new groups.new) }
+        → OnOk result (InlinePutStands w (past_after_sending (next_request (without_pages w) past) past) requests.new groups.new) }
     ensures same { (w : ℕ) (past : List ClientEvent) → InlinePutStands w past requests.old groups.old
         → OnErr result (InlinePutStands w past requests.new groups.new) }
 {

@@ -9,7 +9,7 @@ ghost use Rattle.file_pasts.specs.ClientPast.{ClientEvent, Group, Completed, Rep
 ghost use Rattle.file_pasts.specs.PutDue.{Follows, next_request, job_in_turn, load_of_part, has_room as has_room_by};
 ghost use Rattle.file_pasts.specs.InStep.{over};
 ghost use Rattle.file_transfer.specs.ClientJobs.{JobsStand, after_giving};
-ghost use Rattle.file_transfer.specs.ClientStands.{after_sending, descriptor_in, first_named};
+ghost use Rattle.file_transfer.specs.ClientStands.{past_after_sending, descriptor_in, first_named};
 ghost use Rattle.file_transfer.specs.PutRegisteredStands.{RegisteredStand, RegisteredPutStands, IsRegistered, MayGive, MayTake, MayComplete, JobClosed, MayLoad, MayUnload, MayAskRegistered};
 
 use crate::client_jobs::Jobs;
@@ -235,7 +235,7 @@ pub fn next_registered(
     ensures due { (w : ℕ) (past : List ClientEvent) → RegisteredPutStands w past requests.old groups.old
         → IfOk result (λ m. m ≡ option_map request_bytes (next_request (over w) past)) }
     ensures after { (w : ℕ) (past : List ClientEvent) → RegisteredPutStands w past requests.old groups.old
-        → OnOk result (RegisteredPutStands w (after_sending (next_request (over w) past) past) requests.new groups.new) }
+        → OnOk result (RegisteredPutStands w (past_after_sending (next_request (over w) past) past) requests.new groups.new) }
     ensures same { (w : ℕ) (past : List ClientEvent) → RegisteredPutStands w past requests.old groups.old
         → OnErr result (RegisteredPutStands w past requests.new groups.new) }
 {

@@ -6,8 +6,8 @@ ghost use Rattle.file_messages.specs.declared.message.Request.{Request};
 ghost use Rattle.file_messages.specs.Messages.{request_bytes, reply_of};
 ghost use Rattle.file_pasts.specs.ClientPast.{ClientEvent, Group, End, Sent, Replied, groups_in, requests_sent, reply_fault as refusal_of, answers, has_failed, fault_of_reading};
 ghost use Rattle.file_pasts.specs.PutDue.{Setup, Follows, next_request, is_finished};
-ghost use Rattle.file_transfer.specs.ClientStands.{after_sending, awaited_in, awaited_by, pages_named, first_named, first_asked, with_error};
-ghost use Rattle.file_transfer.specs.PutStands.{RequestsStand, AllSent, goes_on, is_over as is_over_by};
+ghost use Rattle.file_transfer.specs.ClientStands.{past_after_sending, awaited_in, awaited_by, pages_named, first_named, first_asked, with_error};
+ghost use Rattle.file_transfer.specs.PutStands.{RequestsStand, AllSent, takes_groups, is_over as is_over_by};
 
 use crate::client_requests::{ClientRequests, Unanswered};
 use crate::loaded_page::LoadedPage;
@@ -52,7 +52,7 @@ impl PutRequests {
 
     /// No group was shorter than 65,536 bytes, and their end was not told.
     pub fn goes_on(&self) -> bool
-        ensures { (s : Setup) (past : List ClientEvent) → RequestsStand s past self.now → result ≡ goes_on past }
+        ensures { (s : Setup) (past : List ClientEvent) → RequestsStand s past self.now → result ≡ takes_groups past }
     {
         !self.ended && self.whole
     }
@@ -128,7 +128,7 @@ impl PutRequests {
         ensures due { (s : Setup) (past : List ClientEvent) → RequestsStand s past self.old → AllSent past
             → IfOk result (λ m. m ≡ option_map request_bytes (next_request s past)) }
         ensures after { (s : Setup) (past : List ClientEvent) → RequestsStand s past self.old → AllSent past
-            → OnOk result (RequestsStand s (after_sending (next_request s past) past) self.new) }
+            → OnOk result (RequestsStand s (past_after_sending (next_request s past) past) self.new) }
         ensures same { (s : Setup) (past : List ClientEvent) → RequestsStand s past self.old → OnErr result (RequestsStand s past self.new) }
     {
         if self.asked.has_failed() || !self.is_over() {

@@ -7,7 +7,7 @@ ghost use Rattle.file_messages.specs.declared.fault.FileFault.{FileFault};
 ghost use Rattle.file_messages.specs.declared.message.Request.{Request};
 ghost use Rattle.file_messages.specs.declared.message.Reply.{Reply};
 ghost use Rattle.file_messages.specs.Messages.{WRITE, READ, reply_bytes, request_of};
-ghost use Rattle.file_pasts.specs.ServerDue.{ServerEvent, Asked, Completed, Filled as WasFilled, replies, requests, judgement, judged, is_out_of_turn, handled, wants_source, next_job, next_reply, next_group, AnswersJob};
+ghost use Rattle.file_pasts.specs.ServerDue.{ServerEvent, Asked, Completed, Filled as WasFilled, replies, requests, judgement, judged, is_out_of_order, handled, wants_source, next_job, next_reply, next_group, AnswersJob};
 ghost use Rattle.file_transfer.specs.ServerTurn.{StartsAs, is_success, status_from, header_in, header_of};
 ghost use Rattle.file_transfer.specs.ServerStands.{CameBy, HasCome, MayFill, MayComplete, MayAccept, AnswersRequest, lasts, after_request, after_giving, after_replying, after_storing};
 
@@ -185,7 +185,7 @@ impl FileServer {
 
     fn is_out_of_turn(&self, request: &Request) -> bool
         requires { HasCome self.now }
-        ensures { (kind : CopyKind) (past : List ServerEvent) → CameBy kind past self.now → result ≡ is_out_of_turn kind (requests kind past).accepted (replies past) request.now }
+        ensures { (kind : CopyKind) (past : List ServerEvent) → CameBy kind past self.now → result ≡ is_out_of_order kind (requests kind past).accepted (replies past) request.now }
     {
         let late = self.course.is_late(request);
         match self.kind {

@@ -9,9 +9,9 @@ use Rattle.smbd_base.specs.Limits.{usual_limits}
 use Rattle.smbd_base.specs.History.{messages_submitted}
 use Rattle.smbd_base.specs.Delivery.{messages_delivered}
 use Rattle.connection_core.specs.Shown.{Shown}
-use Rattle.smbd_cli.specs.Requests.{carried_by, end_request}
-use Rattle.smbd_cli.specs.Put.{AreRequests, AreAtRest, ArePair, HasCaughtUp, HasCalled, HasPut, stored_by, with_submitted, writes_at}
-use Rattle.smbd_cli.specs.PutRun.{Group, groups, groups_from, groups_count, write_of}
+use Rattle.smbd_cli.specs.Requests.{carried_by, end_request_bytes}
+use Rattle.smbd_cli.specs.Put.{HaveHeaders, AreAtRest, ArePair, HasCaughtUp, HasCalled, HasPut, stored_by, with_submitted, writes_at}
+use Rattle.smbd_cli.specs.PutRun.{Group, groups, numbered_groups, groups_count, write_of_group}
 use Rattle.smbd_cli.specs.Settled.{GoesOn, AllFitPut}
 use Rattle.smbd_cli.proofs.Groups.{groups_more, join_from, length-groups_from}
 use Rattle.smbd_cli.proofs.Resting.{rest_submitted, submitted-with, goes_with, goes_further, front_all}
@@ -20,7 +20,7 @@ use Rattle.smbd_cli.proofs.Submitting.{writes_fit, writes_whole, fits_end, whole
 -- ---- requests are submitted to a pair
 
 submitted_pair : (client server now : Shown) (ms : List (List ℕ)) → ArePair client server → now ≡ record client { past = with_submitted ms client.past; prepared = now.prepared }
-    → AllFitPut ms → AreRequests ms → ArePair now server
+    → AllFitPut ms → HaveHeaders ms → ArePair now server
 submitted_pair client server now ms p is fits whole = record {
   client_side = ap (λ (e : Shown). e.side) is ∙ p.client_side;
   server_side = p.server_side;
@@ -34,17 +34,17 @@ pub pair_writes : (client server now : Shown) (before : ℕ) (bytes : List ℕ) 
 pair_writes client server now before bytes p is =
     submitted_pair client server now (writes_at before bytes) p is (writes_fit (groups_count bytes) (before / 65536 + 1) before bytes) (writes_whole (groups_count bytes) (before / 65536 + 1) before bytes)
 
-pub pair_end : (client server now : Shown) (id offset : ℕ) (message : List ℕ) → ArePair client server → message ≡ end_request id offset
+pub pair_end : (client server now : Shown) (id offset : ℕ) (message : List ℕ) → ArePair client server → message ≡ end_request_bytes id offset
     → now ≡ record client { past = Submit message ∷ client.past; prepared = None } → ArePair now server
 pair_end client server now id offset message p is now_is =
-    submitted_pair client server now (end_request id offset ∷ []) p
+    submitted_pair client server now (end_request_bytes id offset ∷ []) p
     (now_is ∙ ap (λ (m : List ℕ). record client { past = Submit m ∷ client.past; prepared = None }) is
-    ∙ ap (λ (e : Shown). record client { past = Submit (end_request id offset) ∷ client.past; prepared = e.prepared }) (sym now_is))
+    ∙ ap (λ (e : Shown). record client { past = Submit (end_request_bytes id offset) ∷ client.past; prepared = e.prepared }) (sym now_is))
     (fits_end id offset, tt) (whole_end id offset, tt)
 
 length-writes_at : (before : ℕ) (bytes : List ℕ) → length (writes_at before bytes) ≡ groups_count bytes
 length-writes_at before bytes =
-    length-map (groups_from (groups_count bytes) (before / 65536 + 1) before bytes) write_of ∙ length-groups_from (groups_count bytes) (before / 65536 + 1) before bytes
+    length-map (numbered_groups (groups_count bytes) (before / 65536 + 1) before bytes) write_of_group ∙ length-groups_from (groups_count bytes) (before / 65536 + 1) before bytes
 
 submitted_now : (client now : Shown) (before : ℕ) (bytes : List ℕ) → now ≡ record client { past = with_submitted (writes_at before bytes) client.past; prepared = now.prepared }
     → messages_submitted now.past ≡ messages_submitted client.past ++ writes_at before bytes
@@ -89,40 +89,40 @@ written client server c1 c2 s2 before count bytes came up c1_is count_is pair sa
       server_more = server_more;
     }
 
-carried_groups : (gs : List Group) → flat_map carried_by (map write_of gs) ≡ flat_map (λ (g : Group). g.bytes) gs
+carried_groups : (gs : List Group) → flat_map carried_by (map write_of_group gs) ≡ flat_map (λ (g : Group). g.bytes) gs
 carried_groups [] = refl
 carried_groups (g ∷ gs) = ap (λ (bs : List ℕ). g.bytes ++ bs) (carried_groups gs)
 
 pub stored : (client server c2 s2 : Shown) (before : ℕ) (bytes : List ℕ) (came : List (List ℕ)) → HasWritten client server c2 s2 before bytes came → stored_by came ≡ bytes
 stored client server c2 s2 before bytes came h =
     ap stored_by h.came_so
-    ∙ carried_groups (groups_from (groups_count bytes) (before / 65536 + 1) before bytes)
+    ∙ carried_groups (numbered_groups (groups_count bytes) (before / 65536 + 1) before bytes)
     ∙ join_from (groups_count bytes) (before / 65536 + 1) before bytes (omega arith)
 
 -- ---- what was put
 
 requests_more : (before : ℕ) (earlier bytes : List ℕ) → length earlier ≡ before → before % 65536 ≡ 0
-    → map write_of (groups earlier) ++ writes_at before bytes ≡ map write_of (groups (earlier ++ bytes))
+    → map write_of_group (groups earlier) ++ writes_at before bytes ≡ map write_of_group (groups (earlier ++ bytes))
 requests_more before earlier bytes len whole =
     let k = before / 65536 in
     let is : length earlier ≡ k * 65536 = omega arith in
-    ap (λ (o : ℕ). map write_of (groups earlier) ++ map write_of (groups_from (groups_count bytes) (k + 1) o bytes)) (sym len)
-    ∙ sym (map-append write_of (groups earlier) (groups_from (groups_count bytes) (k + 1) (length earlier) bytes))
-    ∙ ap (map write_of) (sym (groups_more k earlier bytes is))
+    ap (λ (o : ℕ). map write_of_group (groups earlier) ++ map write_of_group (numbered_groups (groups_count bytes) (k + 1) o bytes)) (sym len)
+    ∙ sym (map-append write_of_group (groups earlier) (numbered_groups (groups_count bytes) (k + 1) (length earlier) bytes))
+    ∙ ap (map write_of_group) (sym (groups_more k earlier bytes is))
 
 -- all requests so far but for END
 requests_so_far : (client server c2 s2 : Shown) (before : ℕ) (earlier bytes : List ℕ) (came : List (List ℕ)) → HasWritten client server c2 s2 before bytes came
-    → length earlier ≡ before → before % 65536 ≡ 0 → HasPut client server false earlier → messages_submitted c2.past ≡ map write_of (groups (earlier ++ bytes))
+    → length earlier ≡ before → before % 65536 ≡ 0 → HasPut client server false earlier → messages_submitted c2.past ≡ map write_of_group (groups (earlier ++ bytes))
 requests_so_far client server c2 s2 before earlier bytes came h len whole put =
     h.submitted
-    ∙ ap (λ (ms : List (List ℕ)). ms ++ writes_at before bytes) (put.requests ∙ append-nil (map write_of (groups earlier)))
+    ∙ ap (λ (ms : List (List ℕ)). ms ++ writes_at before bytes) (put.requests ∙ append-nil (map write_of_group (groups earlier)))
     ∙ requests_more before earlier bytes len whole
 
 pub put_more : (client server c2 s2 : Shown) (before : ℕ) (earlier bytes : List ℕ) (came : List (List ℕ)) → HasWritten client server c2 s2 before bytes came
     → length earlier ≡ before → before % 65536 ≡ 0 → HasPut client server false earlier → HasPut c2 s2 false (earlier ++ bytes)
 put_more client server c2 s2 before earlier bytes came h len whole put = record {
   pair = h.pair;
-  requests = requests_so_far client server c2 s2 before earlier bytes came h len whole put ∙ sym (append-nil (map write_of (groups (earlier ++ bytes))));
+  requests = requests_so_far client server c2 s2 before earlier bytes came h len whole put ∙ sym (append-nil (map write_of_group (groups (earlier ++ bytes))));
   caught_up = h.caught_up;
 }
 
@@ -131,11 +131,11 @@ pub record HasClosed (client server client_now server_now : Shown) (id offset : 
   pub submitted : Shown
   pub message : List ℕ
   pub request : List ℕ
-  pub message_is : message ≡ end_request id offset
+  pub message_is : message ≡ end_request_bytes id offset
   pub submitted_is : submitted ≡ record client { past = Submit message ∷ client.past; prepared = None }
   pub called : HasCalled submitted server client_now server_now request
 
-pub closed : (client submitted server client_now server_now : Shown) (id offset : ℕ) (message request : List ℕ) → message ≡ end_request id offset
+pub closed : (client submitted server client_now server_now : Shown) (id offset : ℕ) (message request : List ℕ) → message ≡ end_request_bytes id offset
     → submitted ≡ record client { past = Submit message ∷ client.past; prepared = None } → HasCalled submitted server client_now server_now request
     → HasClosed client server client_now server_now id offset
 closed client submitted server client_now server_now id offset message request is submitted_is called =
@@ -148,14 +148,14 @@ put_ended client server c2 s2 c3 s3 before id offset earlier bytes came h e id_i
     let all : length (earlier ++ bytes) ≡ before + length bytes = length-append earlier bytes ∙ ap (λ (n : ℕ). n + length bytes) len in
     let id' : id ≡ groups_count (earlier ++ bytes) + 1 = id_is ∙ ap (λ (n : ℕ). (n + 65535) / 65536 + 1) (sym all) in
     let offset' : offset ≡ length (earlier ++ bytes) = offset_is ∙ sym all in
-    let last : e.message ≡ end_request (groups_count (earlier ++ bytes) + 1) (length (earlier ++ bytes)) =
-    e.message_is ∙ ap (λ (i : ℕ). end_request i offset) id' ∙ ap (λ (o : ℕ). end_request (groups_count (earlier ++ bytes) + 1) o) offset' in
+    let last : e.message ≡ end_request_bytes (groups_count (earlier ++ bytes) + 1) (length (earlier ++ bytes)) =
+    e.message_is ∙ ap (λ (i : ℕ). end_request_bytes i offset) id' ∙ ap (λ (o : ℕ). end_request_bytes (groups_count (earlier ++ bytes) + 1) o) offset' in
     let more : messages_submitted e.submitted.past ≡ messages_submitted c2.past ++ e.message ∷ [] = ap (λ (x : Shown). messages_submitted x.past) e.submitted_is in
     record {
       pair = e.called.pair;
       requests = e.called.submitted ∙ more
           ∙ ap (λ (ms : List (List ℕ)). ms ++ e.message ∷ []) (requests_so_far client server c2 s2 before earlier bytes came h len whole put)
-          ∙ ap (λ (m : List ℕ). map write_of (groups (earlier ++ bytes)) ++ m ∷ []) last;
+          ∙ ap (λ (m : List ℕ). map write_of_group (groups (earlier ++ bytes)) ++ m ∷ []) last;
       caught_up = front_all (messages_delivered Server usual_limits s3.past) e.called.pair.rest.sent.front.0 (messages_submitted c3.past) e.called.pair.rest.sent.front.1
           (omega (
             arith,

@@ -9,10 +9,10 @@ use Rattle.smbd_base.specs.NegotiateMessages.{request_fault, fault_in_request, r
 use Rattle.smbd_base.specs.History.{next_event, take_fault, fault_expecting}
 use Rattle.smbd_base.proofs.FrameLaws.{u16_at-append, u32_at-append}
 use Rattle.connection_core.specs.Shown.{Shown}
-use Rattle.smbd_cli.specs.Carried.{opened, with_past, agreed_client, agreed_server}
-use Rattle.smbd_cli.specs.Requests.{write_request, end_request, write_reply, end_reply, reply_for}
+use Rattle.smbd_cli.specs.Carried.{opened, with_past, usual_agreed_client, usual_agreed_server}
+use Rattle.smbd_cli.specs.Requests.{write_request_bytes, end_request_bytes, write_reply_bytes, end_reply_bytes, reply_for}
 use Rattle.smbd_cli.specs.Put.{AreAtRest, HasPut}
-use Rattle.smbd_cli.specs.PutRun.{Group, groups, groups_from, groups_count, write_of, reply_of, last_request, last_reply, put_requests, put_replies}
+use Rattle.smbd_cli.specs.PutRun.{Group, groups, numbered_groups, groups_count, write_of_group, reply_to_group, last_request, last_reply, put_requests, put_replies}
 use Rattle.smbd_cli.specs.Settled.{IsSettled, AreBeside, HasSent}
 
 -- ---- the groups of bytes that follow others
@@ -22,7 +22,7 @@ empty_is [] e = refl
 empty_is (x ∷ xs) e = absurd (omega arith)
 
 groups_split : (k n number offset : ℕ) (earlier more : List ℕ) → length earlier ≡ k * 65536
-    → groups_from (k + n) number offset (earlier ++ more) ≡ groups_from k number offset earlier ++ groups_from n (number + k) (offset + k * 65536) more
+    → numbered_groups (k + n) number offset (earlier ++ more) ≡ numbered_groups k number offset earlier ++ numbered_groups n (number + k) (offset + k * 65536) more
 groups_split zero n number offset earlier more len =
     let none : earlier ≡ [] = empty_is earlier (omega arith) in
     let a : 0 + n ≡ n = omega arith in
@@ -41,7 +41,7 @@ groups_split (suc k) n number offset earlier more len =
     rw (a, first, later, rest, b, c) refl
 
 pub groups_more : (k : ℕ) (earlier more : List ℕ) → length earlier ≡ k * 65536
-    → groups (earlier ++ more) ≡ groups earlier ++ groups_from (groups_count more) (k + 1) (length earlier) more
+    → groups (earlier ++ more) ≡ groups earlier ++ numbered_groups (groups_count more) (k + 1) (length earlier) more
 unfolding groups
 groups_more k earlier more len =
     let all : groups_count (earlier ++ more) ≡ k + groups_count more = omega (arith, length-append earlier more) in
@@ -49,12 +49,12 @@ groups_more k earlier more len =
     let number : 1 + k ≡ k + 1 = omega arith in
     let offset : 0 + k * 65536 ≡ length earlier = omega arith in
     rw (all, first) (groups_split k (groups_count more) 1 0 earlier more len
-    ∙ ap (λ (i : ℕ). groups_from k 1 0 earlier ++ groups_from (groups_count more) i (0 + k * 65536) more) number
-    ∙ ap (λ (o : ℕ). groups_from k 1 0 earlier ++ groups_from (groups_count more) (k + 1) o more) offset)
+    ∙ ap (λ (i : ℕ). numbered_groups k 1 0 earlier ++ numbered_groups (groups_count more) i (0 + k * 65536) more) number
+    ∙ ap (λ (o : ℕ). numbered_groups k 1 0 earlier ++ numbered_groups (groups_count more) (k + 1) o more) offset)
 
 -- ---- what the groups hold
 
-pub join_from : (n number offset : ℕ) (bytes : List ℕ) → length bytes ≤ n * 65536 → flat_map (λ (g : Group). g.bytes) (groups_from n number offset bytes) ≡ bytes
+pub join_from : (n number offset : ℕ) (bytes : List ℕ) → length bytes ≤ n * 65536 → flat_map (λ (g : Group). g.bytes) (numbered_groups n number offset bytes) ≡ bytes
 join_from zero number offset bytes short = sym (empty_is bytes (omega arith))
 join_from (suc n) number offset bytes short =
     ap (λ (bs : List ℕ). take 65536 bytes ++ bs) (join_from n (number + 1) (offset + 65536) (drop 65536 bytes) (omega (arith, length-drop 65536 bytes)))
@@ -68,7 +68,7 @@ pub groups_join : (bytes : List ℕ) → flat_map (λ (g : Group). g.bytes) (gro
 unfolding groups
 groups_join bytes = join_from (groups_count bytes) 1 0 bytes (covers bytes)
 
-pub length-groups_from : (n number offset : ℕ) (bytes : List ℕ) → length (groups_from n number offset bytes) ≡ n
+pub length-groups_from : (n number offset : ℕ) (bytes : List ℕ) → length (numbered_groups n number offset bytes) ≡ n
 length-groups_from zero number offset bytes = refl
 length-groups_from (suc n) number offset bytes = omega (arith, length-groups_from n (number + 1) (offset + 65536) (drop 65536 bytes))
 
@@ -78,26 +78,26 @@ length-groups bytes = length-groups_from (groups_count bytes) 1 0 bytes
 
 -- ---- what the requests say
 
-pub reply-write : (id offset : ℕ) (bytes : List ℕ) → id < 4294967296 → reply_for (write_request id offset bytes) ≡ write_reply id (length bytes)
+pub reply-write : (id offset : ℕ) (bytes : List ℕ) → id < 4294967296 → reply_for (write_request_bytes id offset bytes) ≡ write_reply_bytes id (length bytes)
 reply-write id offset bytes small =
-    let request = write_request id offset bytes in
+    let request = write_request_bytes id offset bytes in
     let named : u32_at 4 request ≡ id = u32_at-append (to_le_bytes w16 1 ++ to_le_bytes w16 0) id (drop 8 request) 4 refl small in
     let op : u16_at 0 request ≡ 1 = u16_at-append [] 1 (drop 2 request) 0 refl (lit< tt) in
     let len : length request - 24 ≡ length bytes = omega arith in
     rw (op, named, len) refl
 
-pub reply-end : (id offset : ℕ) → id < 4294967296 → reply_for (end_request id offset) ≡ end_reply id
+pub reply-end : (id offset : ℕ) → id < 4294967296 → reply_for (end_request_bytes id offset) ≡ end_reply_bytes id
 reply-end id offset small =
-    let request = end_request id offset in
+    let request = end_request_bytes id offset in
     let named : u32_at 4 request ≡ id = u32_at-append (to_le_bytes w16 3 ++ to_le_bytes w16 0) id (drop 8 request) 4 refl small in
     rw named refl
 
 replies_from : (n number offset : ℕ) (bytes : List ℕ) → number + n ≤ 4294967296
-    → map reply_for (map write_of (groups_from n number offset bytes)) ≡ map reply_of (groups_from n number offset bytes)
+    → map reply_for (map write_of_group (numbered_groups n number offset bytes)) ≡ map reply_to_group (numbered_groups n number offset bytes)
 replies_from zero number offset bytes small = refl
 replies_from (suc n) number offset bytes small =
-    let one : reply_for (write_request number offset (take 65536 bytes)) ≡ write_reply number (length (take 65536 bytes)) = reply-write number offset (take 65536 bytes) (omega arith) in
-    let rest : map reply_for (map write_of (groups_from n (number + 1) (offset + 65536) (drop 65536 bytes))) ≡ map reply_of (groups_from n (number + 1) (offset + 65536) (drop 65536 bytes)) = replies_from n (number + 1) (offset + 65536) (drop 65536 bytes) (omega arith) in
+    let one : reply_for (write_request_bytes number offset (take 65536 bytes)) ≡ write_reply_bytes number (length (take 65536 bytes)) = reply-write number offset (take 65536 bytes) (omega arith) in
+    let rest : map reply_for (map write_of_group (numbered_groups n (number + 1) (offset + 65536) (drop 65536 bytes))) ≡ map reply_to_group (numbered_groups n (number + 1) (offset + 65536) (drop 65536 bytes)) = replies_from n (number + 1) (offset + 65536) (drop 65536 bytes) (omega arith) in
     cc
 
 last_replied : (ended : Bool) (bytes : List ℕ) → length bytes ≤ 16777216 → map reply_for (last_request ended bytes) ≡ last_reply ended bytes
@@ -107,36 +107,36 @@ last_replied false bytes short = refl
 pub replies_are : (ended : Bool) (bytes : List ℕ) → length bytes ≤ 16777216 → map reply_for (put_requests ended bytes) ≡ put_replies ended bytes
 unfolding groups
 replies_are ended bytes short =
-    map-append reply_for (map write_of (groups bytes)) (last_request ended bytes)
+    map-append reply_for (map write_of_group (groups bytes)) (last_request ended bytes)
     ∙ ap (λ (rs : List (List ℕ)). rs ++ map reply_for (last_request ended bytes)) (replies_from (groups_count bytes) 1 0 bytes (omega arith))
-    ∙ ap (λ (rs : List (List ℕ)). map reply_of (groups bytes) ++ rs) (last_replied ended bytes short)
+    ∙ ap (λ (rs : List (List ℕ)). map reply_to_group (groups bytes) ++ rs) (last_replied ended bytes short)
 
 -- ---- after the negotiation
 
-agreed_client_settled : IsSettled Client agreed_client
+agreed_client_settled : IsSettled Client usual_agreed_client
 unfolding next_event take_fault fault_expecting request_fault fault_in_request response_fault fault_in_response
 agreed_client_settled = record { legal = (refl, (refl, (refl, (refl, tt)))); cut = refl; opened = refl; refused = refl; post_due = refl; silent = refl; unheard = refl; welcomed = refl; payload = refl; longest = refl }
 
-agreed_server_settled : IsSettled Server agreed_server
+agreed_server_settled : IsSettled Server usual_agreed_server
 unfolding next_event take_fault fault_expecting request_fault fault_in_request response_fault fault_in_response
 agreed_server_settled = record { legal = (refl, (refl, (refl, (refl, tt)))); cut = refl; opened = refl; refused = refl; post_due = refl; silent = refl; unheard = refl; welcomed = refl; payload = refl; longest = refl }
 
-agreed_beside : AreBeside Client Server agreed_client agreed_server
+agreed_beside : AreBeside Client Server usual_agreed_client usual_agreed_server
 unfolding next_event take_fault fault_expecting request_fault fault_in_request response_fault fault_in_response
 agreed_beside = record {
   from_end = record { settled = agreed_client_settled; accepted = (refl, tt); frames = refl; held = refl; credits = refl };
   to_end = record { settled = agreed_server_settled; accepted = (refl, tt); frames = refl; held = refl; credits = refl };
 }
 
-agreed_sent : HasSent Server agreed_client agreed_server
+agreed_sent : HasSent Server usual_agreed_client usual_agreed_server
 unfolding next_event take_fault fault_expecting request_fault fault_in_request response_fault fault_in_response
 agreed_sent = record { front = ([], refl); pieces = refl; fits = tt }
 
-agreed_replies_sent : HasSent Client agreed_server agreed_client
+agreed_replies_sent : HasSent Client usual_agreed_server usual_agreed_client
 unfolding next_event take_fault fault_expecting request_fault fault_in_request response_fault fault_in_response
 agreed_replies_sent = record { front = ([], refl); pieces = refl; fits = tt }
 
-agreed_rest : AreAtRest agreed_client agreed_server
+agreed_rest : AreAtRest usual_agreed_client usual_agreed_server
 unfolding next_event take_fault fault_expecting request_fault fault_in_request response_fault fault_in_response
 agreed_rest = record {
   pair = agreed_beside;
@@ -151,11 +151,11 @@ agreed_rest = record {
 
 -- both ends after the negotiation are at rest, and nothing was put
 pub agreed_put : (client server client_now server_now : Shown) → client ≡ opened Client → server ≡ opened Server
-    → client_now ≡ with_past client agreed_client → server_now ≡ with_past server agreed_server → HasPut client_now server_now false []
+    → client_now ≡ with_past client usual_agreed_client → server_now ≡ with_past server usual_agreed_server → HasPut client_now server_now false []
 unfolding groups take_fault fault_expecting request_fault fault_in_request response_fault fault_in_response
 agreed_put client server client_now server_now c s c' s' =
-    let client_is : client_now ≡ with_past (opened Client) agreed_client = c' ∙ ap (λ (x : Shown). with_past x agreed_client) c in
-    let server_is : server_now ≡ with_past (opened Server) agreed_server = s' ∙ ap (λ (x : Shown). with_past x agreed_server) s in
+    let client_is : client_now ≡ with_past (opened Client) usual_agreed_client = c' ∙ ap (λ (x : Shown). with_past x usual_agreed_client) c in
+    let server_is : server_now ≡ with_past (opened Server) usual_agreed_server = s' ∙ ap (λ (x : Shown). with_past x usual_agreed_server) s in
     record {
       pair = record {
         client_side = ap (λ (x : Shown). x.side) client_is;

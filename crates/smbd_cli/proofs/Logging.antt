@@ -11,7 +11,7 @@ use Rattle.smbd_base.specs.Joint.{taken_frames}
 use Rattle.event_log.specs.Lines.{lines_text}
 use Rattle.run_log.specs.RunLines.{event_line, history_lines, next_frame_number, number_after}
 use Rattle.run_log.specs.NewLines.{lines_from, number_after_all, told_after, told_of}
-use Rattle.smbd_cli.specs.LogText.{Entry, entries_text, own_line, lines_at, lines_of_ends, IsLog, BeginsLog}
+use Rattle.smbd_cli.specs.LogText.{LogEntry, entries_text, own_line, lines_at, lines_of_ends, IsLog, BeginsLog}
 use Rattle.run_log.specs.declared.telling.Told.{Told}
 use Rattle.smbd_cli.specs.Settled.{GoesOn}
 use Rattle.smbd_cli.specs.Telling.{new_text}
@@ -38,17 +38,17 @@ lines_more side number lines past n l (e ∷ events) =
 
 -- ---- the log
 
-abbrev pub entries_at : EndId → List (List ℕ) → List Entry
+abbrev pub entries_at : EndId → List (List ℕ) → List LogEntry
 entries_at side [] = []
 entries_at side (line ∷ lines) = (record { side = side; line = line }) ∷ entries_at side lines
 
-text-at : (side : EndId) (lines : List (List ℕ)) (later : List Entry) → entries_text (entries_at side lines ++ later) ≡ lines_text lines ++ entries_text later
+text-at : (side : EndId) (lines : List (List ℕ)) (later : List LogEntry) → entries_text (entries_at side lines ++ later) ≡ lines_text lines ++ entries_text later
 text-at side [] later = refl
 text-at side (line ∷ lines) later =
     ap (λ (t : List ℕ). (line ++ codes "\n") ++ t) (text-at side lines later) ∙ sym (append_assoc (line ++ codes "\n") (lines_text lines) (entries_text later))
 
 -- the lines of the client and then those of the server
-abbrev pub both_entries : List (List ℕ) → List (List ℕ) → List Entry
+abbrev pub both_entries : List (List ℕ) → List (List ℕ) → List LogEntry
 both_entries client server = entries_at Client client ++ entries_at Server server
 
 both_text : (client server : List (List ℕ)) → entries_text (both_entries client server) ≡ lines_text client ++ lines_text server
@@ -56,11 +56,11 @@ both_text client server =
     text-at Client client (entries_at Server server)
     ∙ ap (λ (t : List ℕ). lines_text client ++ t) (ap entries_text (sym (append-nil (entries_at Server server))) ∙ text-at Server server [] ∙ append-nil (lines_text server))
 
-client_at : (lines : List (List ℕ)) (later : List Entry) → lines_at Client (entries_at Client lines ++ later) ≡ lines ++ lines_at Client later
+client_at : (lines : List (List ℕ)) (later : List LogEntry) → lines_at Client (entries_at Client lines ++ later) ≡ lines ++ lines_at Client later
 client_at [] later = refl
 client_at (line ∷ lines) later = ap (λ (ls : List (List ℕ)). line ∷ ls) (client_at lines later)
 
-server_at : (lines : List (List ℕ)) (later : List Entry) → lines_at Server (entries_at Client lines ++ later) ≡ lines_at Server later
+server_at : (lines : List (List ℕ)) (later : List LogEntry) → lines_at Server (entries_at Client lines ++ later) ≡ lines_at Server later
 server_at [] later = refl
 server_at (line ∷ lines) later = server_at lines later
 
@@ -128,12 +128,12 @@ told_all past now history told is more h =
     ap (λ (es : List Event). number_after_all (next_frame_number past) es) g.dropped ∙ number_is past g.events ∙ ap (λ (p : List Event). next_frame_number p) (sym g.is) in
     rw is (rw (long, next) refl)
 
-entries_text-append : (xs ys : List Entry) → entries_text (xs ++ ys) ≡ entries_text xs ++ entries_text ys
+entries_text-append : (xs ys : List LogEntry) → entries_text (xs ++ ys) ≡ entries_text xs ++ entries_text ys
 entries_text-append [] ys = refl
 entries_text-append (x ∷ xs) ys =
     ap (λ (t : List ℕ). (x.line ++ codes "\n") ++ t) (entries_text-append xs ys) ∙ sym (append_assoc (x.line ++ codes "\n") (entries_text xs) (entries_text ys))
 
-lines_at-append : (side : EndId) (xs ys : List Entry) → lines_at side (xs ++ ys) ≡ lines_at side xs ++ lines_at side ys
+lines_at-append : (side : EndId) (xs ys : List LogEntry) → lines_at side (xs ++ ys) ≡ lines_at side xs ++ lines_at side ys
 lines_at-append side [] ys = refl
 lines_at-append side (x ∷ xs) ys =
     ap (λ (ls : List (List ℕ)). own_line side x.side x.line ++ ls) (lines_at-append side xs ys)
@@ -154,7 +154,7 @@ log_more c s c_now s_now ce se text ct st log ct_is st_is c_more s_more c_is s_i
       first = log.first;
       second = log.second;
       later = log.later ++ both_entries client server;
-      opening = ap (λ (es : List Entry). es ++ both_entries client server) log.opening;
+      opening = ap (λ (es : List LogEntry). es ++ both_entries client server) log.opening;
     }) where
       each : (side : EndId)
           → lines_at side (log.entries ++ both_entries (lines_from Client (told_of c).next (drop (told_of c).events ce)) (lines_from Server (told_of s).next (drop (told_of s).events se)))

@@ -9,7 +9,7 @@ use Rattle.smbd_base.specs.NegotiateMessages.{request_fault, fault_in_request, r
 use Rattle.smbd_base.specs.History.{next_event, take_fault, fault_expecting}
 use Rattle.smbd_base.specs.Joint.{emitted_frames, taken_frames}
 use Rattle.connection_core.specs.Shown.{Shown}
-use Rattle.smbd_cli.specs.Carried.{is_emit, opened, usual_request, usual_response, agreed_client, agreed_server, with_past, CanTake, HasCarried}
+use Rattle.smbd_cli.specs.Carried.{is_emit, opened, usual_request, usual_response, usual_agreed_client, usual_agreed_server, with_past, CanTake, HasCarried}
 
 same_frame : (f g : List ℕ) → due.Emit f ≡ due.Emit g → f ≡ g
 same_frame f g e = cc
@@ -84,8 +84,8 @@ client_has_all client server h = rw (h.client_is, h.server_is) refl
 
 -- both ends after the response
 pub record HasAgreed (client server : Shown) : Type 0 where
-  pub client_is : client ≡ with_past (opened Client) agreed_client
-  pub server_is : server ≡ with_past (opened Server) agreed_server
+  pub client_is : client ≡ with_past (opened Client) usual_agreed_client
+  pub server_is : server ≡ with_past (opened Server) usual_agreed_server
 
 pub agreed : (client server client_now server_now : Shown) (o : Option (List ℕ)) → HasAsked client server → HasCarried server client server_now client_now o → HasAgreed client_now server_now
 agreed client server client_now server_now o a h =

@@ -4,17 +4,17 @@ use Rattle.smbd_outside.specs.declared.status.Status.{Status}
 use Rattle.smbd_outside.specs.declared.status.Status.TheVariants.{Done, Usage, ReadFault, WriteFault, LogFault, TooLong, Cut, BadInput, NoMemory}
 use Rattle.smbd_cli.specs.declared.options.Plain.{Plain}
 use Rattle.smbd_cli.specs.Promise.{Stream}
-use Rattle.smbd_cli.specs.Plain.{KeepsPlainPromise, IsFairPlain, bad_line, status_of}
+use Rattle.smbd_cli.specs.Plain.{KeepsPlainPromise, IsFairPlain, bad_line, status_by_line}
 use Rattle.smbd_cli.proofs.Completing.{read_most, read_all}
 
 pub plain_completes : (status : Status) (command : Plain) (source sink : Stream) (input : List ℕ) → KeepsPlainPromise status command source sink
-    → IsFairPlain source sink input → (status ≡ status_of (bad_line command input)) ⊎ (status ≡ NoMemory)
+    → IsFairPlain source sink input → (status ≡ status_by_line (bad_line command input)) ⊎ (status ≡ NoMemory)
 plain_completes Done command source sink input k fair =
     let all = read_all source.before source.now input k.input fair.told k.read k.ends.0.whole.at_end in
-    inl (sym (ap (λ (t : List ℕ). status_of (bad_line command t)) (sym all) ∙ ap status_of k.ends.0.good))
+    inl (sym (ap (λ (t : List ℕ). status_by_line (bad_line command t)) (sym all) ∙ ap status_by_line k.ends.0.good))
 plain_completes (BadInput line) command source sink input k fair =
     let all = read_all source.before source.now input k.input fair.told k.read k.ends.0.at_end in
-    inl (sym (ap (λ (t : List ℕ). status_of (bad_line command t)) (sym all) ∙ ap status_of k.ends.1))
+    inl (sym (ap (λ (t : List ℕ). status_by_line (bad_line command t)) (sym all) ∙ ap status_by_line k.ends.1))
 plain_completes NoMemory command source sink input k fair = inr refl
 plain_completes ReadFault command source sink input k fair = absurd (fair.reads k.ends.0.1)
 plain_completes WriteFault command source sink input k fair = absurd (fair.writes k.ends.2)

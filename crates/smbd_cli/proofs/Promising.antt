@@ -12,8 +12,8 @@ use Rattle.smbd_outside.specs.Streams.{AppendsFront}
 use Rattle.connection_core.specs.Shown.{Shown}
 use Rattle.run_log.specs.declared.telling.Told.{Told}
 use Rattle.smbd_cli.specs.LogText.{IsLog, BeginsLog}
-use Rattle.smbd_cli.specs.Progress.{moved, HasSaid, IsBetween, IsBeforeTurn, IsAfterTurn, StopsReading}
-use Rattle.smbd_cli.specs.Promise.{Stream, Course, Moves, IsSound, StoresGroups, KeepsPromise}
+use Rattle.smbd_cli.specs.Progress.{moved, HasSaid, IsBetweenTurns, IsBeforeTurn, IsAfterTurn, StopsReading}
+use Rattle.smbd_cli.specs.Promise.{Stream, Course, Moves, IsSoundCourse, StoresGroups, KeepsPromise}
 use Rattle.smbd_cli.specs.Put.{HasPut}
 use Rattle.smbd_cli.specs.Settled.{GoesOn}
 use Rattle.run_log.specs.NewLines.{told_after}
@@ -34,7 +34,7 @@ turns_of n e = omega arith
 
 -- ---- all that was read was stored
 
-module _ (source sink log : Stream) (c s : List Event) (ct st : Told) (bytes : List ℕ) (b : IsBetween source sink log c s ct st false bytes) where
+module _ (source sink log : Stream) (c s : List Event) (ct st : Told) (bytes : List ℕ) (b : IsBetweenTurns source sink log c s ct st false bytes) where
   whole : length bytes ≡ length bytes / 262144 * 4 * 65536
   whole = turns_of (length bytes) (b.turns refl)
 
@@ -45,7 +45,7 @@ module _ (source sink log : Stream) (c s : List Event) (ct st : Told) (bytes : L
   said_so_far : (more : List ℕ) → IsSaidOf false bytes false (bytes ++ more)
   said_so_far more = said_groups (length bytes / 262144 * 4) false bytes more whole
 
-  sound_so_far : (more : List ℕ) → IsSound (course_so_far more)
+  sound_so_far : (more : List ℕ) → IsSoundCourse (course_so_far more)
   sound_so_far more =
       sound_of c s false false bytes (bytes ++ more) bytes b.so_far.text b.so_far.said (said_so_far more) (prefix_of-equal bytes bytes refl)
       (λ some. told_first (course_so_far more) c s false bytes b.so_far.text ([], refl) ([], refl) b.so_far.is_log ([], append-nil b.so_far.text) b.so_far.said (said_so_far more) (prefix_of-equal bytes bytes refl))
@@ -83,7 +83,7 @@ module _ (source sink log : Stream) (c s : List Event) (ct st : Told) (bytes : L
   }
 
 -- all is done
-pub stops_done : (source sink log : Stream) (c s : List Event) (ct st : Told) (bytes : List ℕ) → IsBetween source sink log c s ct st true bytes → KeepsPromise Done source sink log
+pub stops_done : (source sink log : Stream) (c s : List Event) (ct st : Told) (bytes : List ℕ) → IsBetweenTurns source sink log c s ct st true bytes → KeepsPromise Done source sink log
 stops_done source sink log c s ct st bytes b = record {
   course = record { client = c; server = s; bytes = bytes; ended = true; stored = bytes; text = b.so_far.text };
   moves = record { read = b.read; stored = b.so_far.stored; logged = b.so_far.logged; ended = b.last };
@@ -150,7 +150,7 @@ module _ (source sink log : Stream) (client server : Shown) (ct st : Told) (befo
     said_before : IsSaidOf false b.earlier ended (b.earlier ++ bytes)
     said_before = said_groups (length b.earlier / 262144 * 4) ended b.earlier bytes (turns_of (length b.earlier) turns_before)
 
-    sound_told : (front : List ℕ) → IsSound (course_told front)
+    sound_told : (front : List ℕ) → IsSoundCourse (course_told front)
     sound_told front =
         sound_of client_now.past server_now.past ended ended (b.earlier ++ bytes) (b.earlier ++ bytes) b.earlier (b.so_far.text ++ front) said said_now (bytes, refl)
         (λ some. told_first (course_told front) b.told_client b.told_server false b.earlier b.so_far.text c_all s_all b.so_far.is_log (front, refl) b.so_far.said said_before (prefix_of-equal b.earlier b.earlier refl))
@@ -184,7 +184,7 @@ module _ (source sink log : Stream) (client server : Shown) (ct st : Told) (befo
       text = b.so_far.text ++ new_text ct st ce se;
     }
 
-    sound_stored : (front : List ℕ) → IsPrefix (b.earlier ++ front) (b.earlier ++ bytes) → IsSound (course_stored front)
+    sound_stored : (front : List ℕ) → IsPrefix (b.earlier ++ front) (b.earlier ++ bytes) → IsSoundCourse (course_stored front)
     sound_stored front stores =
         sound_of client_now.past server_now.past ended ended (b.earlier ++ bytes) (b.earlier ++ bytes) (b.earlier ++ front) (b.so_far.text ++ new_text ct st ce se) said said_now stores
         (λ some. told_first (course_stored front) client_now.past server_now.past ended (b.earlier ++ bytes) (b.so_far.text ++ new_text ct st ce se) ([], refl) ([], refl) log_now

@@ -11,7 +11,7 @@ use Rattle.smbd_base.specs.Delivery.{messages_delivered}
 use Rattle.smbd_outside.specs.Streams.{AppendsFront}
 use Rattle.connection_core.specs.Shown.{Shown}
 use Rattle.smbd_cli.specs.Requests.{carried_by}
-use Rattle.smbd_cli.specs.Put.{AreRequests, ArePair, HasCalled, stored_by}
+use Rattle.smbd_cli.specs.Put.{HaveHeaders, ArePair, HasCalled, stored_by}
 use Rattle.smbd_cli.specs.Settled.{GoesOn}
 use Rattle.smbd_cli.proofs.Resting.{requests_snoc, goes_nowhere, goes_further}
 
@@ -22,7 +22,7 @@ pub record HasAnswered (client server client_now server_now : Shown) (came : Lis
   pub pair : ArePair client_now server_now
   pub submitted : messages_submitted client_now.past ≡ messages_submitted client.past
   pub came_so : messages_delivered Server usual_limits server_now.past ≡ messages_delivered Server usual_limits server.past ++ came
-  pub requests : AreRequests came
+  pub requests : HaveHeaders came
   pub client_more : GoesOn client.past client_now.past
   pub server_more : GoesOn server.past server_now.past
 
@@ -56,7 +56,7 @@ waits_still client server c1 s1 came count a few wait =
 
 -- ---- what they carry is stored
 
-pub request_at : (ms : List (List ℕ)) (i : ℕ) (m : List ℕ) → AreRequests ms → i < length ms → m ≡ get_or ms i m → 24 ≤ length m
+pub request_at : (ms : List (List ℕ)) (i : ℕ) (m : List ℕ) → HaveHeaders ms → i < length ms → m ≡ get_or ms i m → 24 ≤ length m
 request_at [] i m all within is = absurd (omega arith)
 request_at (x ∷ ms) zero m all within is = subst (λ (y : List ℕ). 24 ≤ length y) (sym is) all.0
 request_at (x ∷ ms) (suc i) m all within is = request_at ms i m all.1 (omega arith) is

@@ -12,8 +12,8 @@ use Rattle.smbd_base.specs.History.{submit_fault, messages_submitted}
 use Rattle.smbd_base.specs.Delivery.{messages_delivered}
 use Rattle.connection_core.specs.Shown.{Shown}
 use Rattle.smbd_cli.specs.Carried.{with_past}
-use Rattle.smbd_cli.specs.Requests.{reply_for, write_reply, end_reply}
-use Rattle.smbd_cli.specs.Put.{AreRequests, AreAtRest, ArePair, HasCalled, with_submitted}
+use Rattle.smbd_cli.specs.Requests.{reply_for, write_reply_bytes, end_reply_bytes}
+use Rattle.smbd_cli.specs.Put.{HaveHeaders, AreAtRest, ArePair, HasCalled, with_submitted}
 use Rattle.smbd_cli.proofs.Following.{follows_further}
 use Rattle.smbd_cli.specs.Settled.{GoesOn, pieces_of_all, IsSettled, IsBeside, AreBeside, FitsPut, AllFitPut, HasSent, CanSend, HasSentOne}
 
@@ -29,7 +29,7 @@ pub fit_snoc : (ms : List (List ℕ)) (m : List ℕ) → AllFitPut ms → FitsPu
 fit_snoc [] m all one = (one, tt)
 fit_snoc (x ∷ ms) m all one = (all.0, fit_snoc ms m all.1 one)
 
-pub requests_snoc : (ms : List (List ℕ)) (m : List ℕ) → AreRequests ms → 24 ≤ length m → AreRequests (ms ++ m ∷ [])
+pub requests_snoc : (ms : List (List ℕ)) (m : List ℕ) → HaveHeaders ms → 24 ≤ length m → HaveHeaders (ms ++ m ∷ [])
 requests_snoc [] m all one = (one, tt)
 requests_snoc (x ∷ ms) m all one = (all.0, requests_snoc ms m all.1 one)
 
@@ -37,7 +37,7 @@ fits_next : (ms later : List (List ℕ)) (m : List ℕ) → AllFitPut ((ms ++ m 
 fits_next [] later m all = all.0
 fits_next (x ∷ ms) later m all = fits_next ms later m all.1
 
-whole_next : (ms later : List (List ℕ)) (m : List ℕ) → AreRequests ((ms ++ m ∷ []) ++ later) → 24 ≤ length m
+whole_next : (ms later : List (List ℕ)) (m : List ℕ) → HaveHeaders ((ms ++ m ∷ []) ++ later) → 24 ≤ length m
 whole_next [] later m all = all.0
 whole_next (x ∷ ms) later m all = whole_next ms later m all.1
 
@@ -111,7 +111,7 @@ rest_submit c s m r fits whole = record {
   granted = r.granted;
 }
 
-pub rest_submitted : (ms : List (List ℕ)) (c s : List Event) → AreAtRest c s → AllFitPut ms → AreRequests ms → AreAtRest (with_submitted ms c) s
+pub rest_submitted : (ms : List (List ℕ)) (c s : List Event) → AreAtRest c s → AllFitPut ms → HaveHeaders ms → AreAtRest (with_submitted ms c) s
 rest_submitted [] c s r fits whole = r
 rest_submitted (m ∷ ms) c s r fits whole = rest_submitted ms (Submit m ∷ c) s (rest_submit c s m r fits.0 whole.0) fits.1 whole.1
 
@@ -127,7 +127,7 @@ goes_with (m ∷ ms) past = goes_further past (Submit m ∷ past) (with_submitte
 
 fits_reply : (request : List ℕ) → FitsPut (reply_for request)
 fits_reply request = by_op (u16_at 0 request == 1) where
-  by_op : (b : Bool) → FitsPut (cond b (write_reply (u32_at 4 request) (length request - 24)) (end_reply (u32_at 4 request)))
+  by_op : (b : Bool) → FitsPut (cond b (write_reply_bytes (u32_at 4 request) (length request - 24)) (end_reply_bytes (u32_at 4 request)))
   by_op true = record { some = lit< tt; short = lit≤ tt }
   by_op false = record { some = lit< tt; short = lit≤ tt }
 
@@ -141,7 +141,7 @@ asked_fits : (c s c1 s1 : List Event) (m : List ℕ) → AreAtRest c s → HasSe
 asked_fits c s c1 s1 m r x = fits_next (messages_delivered Server usual_limits s) x.sent.front.0 m (subst AllFitPut (stands_next c s c1 s1 m x) r.sent.fits)
 
 asked_whole : (c s c1 s1 : List Event) (m : List ℕ) → AreAtRest c s → HasSentOne Client Server c s c1 s1 m → 24 ≤ length m
-asked_whole c s c1 s1 m r x = whole_next (messages_delivered Server usual_limits s) x.sent.front.0 m (subst AreRequests (stands_next c s c1 s1 m x) r.requests)
+asked_whole c s c1 s1 m r x = whole_next (messages_delivered Server usual_limits s) x.sent.front.0 m (subst HaveHeaders (stands_next c s c1 s1 m x) r.requests)
 
 -- what the client has of the replies, once the request went over
 replies_before : (c s c1 s1 : List Event) (m : List ℕ) → AreAtRest c s → HasSentOne Client Server c s c1 s1 m
@@ -190,7 +190,7 @@ rest_again c s c1 s1 c2 s2 m r h x y =
         fits = subst AllFitPut (sym from_client) x.sent.fits;
       };
       replies_sent = y.sent;
-      requests = subst AreRequests (sym (from_client ∙ x.submitted)) h.requests;
+      requests = subst HaveHeaders (sym (from_client ∙ x.submitted)) h.requests;
       replied = from_server
           ∙ ap (λ (ms : List (List ℕ)). ms ++ reply ∷ []) (x.other_submitted ∙ h.replied)
           ∙ sym (map-append reply_for (messages_delivered Server usual_limits s) (m ∷ []))

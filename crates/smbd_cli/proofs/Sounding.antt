@@ -15,8 +15,8 @@ use Rattle.joint_laws.proofs.Meeting.{balances, client_meets, server_meets}
 use Rattle.smbd_cli.specs.Progress.{HasSaid}
 use Rattle.smbd_cli.specs.Settled.{GoesOn}
 use Rattle.smbd_cli.specs.LogText.{IsLog}
-use Rattle.smbd_cli.specs.Promise.{Course, IsSound, IsToldFirst, usable}
-use Rattle.smbd_cli.specs.PutRun.{Group, groups, groups_from, groups_count, write_of, reply_of, last_request, last_reply, put_requests, put_replies}
+use Rattle.smbd_cli.specs.Promise.{Course, IsSoundCourse, IsToldFirst, usable}
+use Rattle.smbd_cli.specs.PutRun.{Group, groups, numbered_groups, groups_count, write_of_group, reply_to_group, last_request, last_reply, put_requests, put_replies}
 use Rattle.smbd_cli.proofs.Groups.{groups_more, groups_join, length-groups}
 use Rattle.smbd_cli.proofs.Sending.{lawful}
 
@@ -73,7 +73,7 @@ pub record IsSaidOf (said_ended : Bool) (said : List ℕ) (ended : Bool) (bytes 
   pub requests : IsPrefix (put_requests said_ended said) (put_requests ended (usable ended bytes))
   pub replies : IsPrefix (put_replies said_ended said) (put_replies ended (usable ended bytes))
   pub front : IsPrefix said bytes
-  pub first : (n : ℕ) → n ≤ groups_count said → IsPrefix (map write_of (take n (groups bytes))) (put_requests said_ended said)
+  pub first : (n : ℕ) → n ≤ groups_count said → IsPrefix (map write_of_group (take n (groups bytes))) (put_requests said_ended said)
   pub stored : (n : ℕ) × (said ≡ flat_map (λ (g : Group). g.bytes) (take n (groups (usable ended bytes))))
 
 -- all of them, where the end was seen
@@ -82,7 +82,7 @@ said_whole bytes = record {
   requests = prefix_of-equal _ _ refl;
   replies = prefix_of-equal _ _ refl;
   front = prefix_of-equal _ _ refl;
-  first = λ n le. first_of write_of (groups bytes) n (last_request true bytes);
+  first = λ n le. first_of write_of_group (groups bytes) n (last_request true bytes);
   stored = (
     groups_count bytes,
     sym (groups_join bytes) ∙ ap (λ (gs : List Group). flat_map (λ (g : Group). g.bytes) gs)
@@ -97,19 +97,19 @@ count_of k bytes e = rw e (div-mul-add k 65536 65535 (omega arith))
 pub said_groups : (k : ℕ) (ended : Bool) (said more : List ℕ) → length said ≡ k * 65536 → IsSaidOf false said ended (said ++ more)
 said_groups k ended said more e =
     let u = usable_more k ended said more e in
-    let gs : groups (usable ended (said ++ more)) ≡ groups said ++ groups_from (groups_count u.more) (k + 1) (length said) u.more =
+    let gs : groups (usable ended (said ++ more)) ≡ groups said ++ numbered_groups (groups_count u.more) (k + 1) (length said) u.more =
     ap groups u.is ∙ groups_more k said u.more e in
-    let all : groups (said ++ more) ≡ groups said ++ groups_from (groups_count more) (k + 1) (length said) more = groups_more k said more e in
+    let all : groups (said ++ more) ≡ groups said ++ numbered_groups (groups_count more) (k + 1) (length said) more = groups_more k said more e in
     let first_ones : take (groups_count said) (groups (usable ended (said ++ more))) ≡ groups said =
     ap (λ (g : List Group). take (groups_count said) g) gs
-    ∙ take-append-le (groups_count said) (groups said) (groups_from (groups_count u.more) (k + 1) (length said) u.more) (omega (arith, length-groups said))
+    ∙ take-append-le (groups_count said) (groups said) (numbered_groups (groups_count u.more) (k + 1) (length said) u.more) (omega (arith, length-groups said))
     ∙ take_all (groups_count said) (groups said) (omega (arith, length-groups said)) in
     record {
-      requests = rw gs (map_front write_of (groups said) (groups_from (groups_count u.more) (k + 1) (length said) u.more) (last_request ended (usable ended (said ++ more))));
-      replies = rw gs (map_front reply_of (groups said) (groups_from (groups_count u.more) (k + 1) (length said) u.more) (last_reply ended (usable ended (said ++ more))));
+      requests = rw gs (map_front write_of_group (groups said) (numbered_groups (groups_count u.more) (k + 1) (length said) u.more) (last_request ended (usable ended (said ++ more))));
+      replies = rw gs (map_front reply_to_group (groups said) (numbered_groups (groups_count u.more) (k + 1) (length said) u.more) (last_reply ended (usable ended (said ++ more))));
       front = (more, refl);
       first = λ n le. (let short : n ≤ length (groups said) = omega (arith, le, length-groups said) in
-          rw (all, take-append-le n (groups said) (groups_from (groups_count more) (k + 1) (length said) more) short) (first_of write_of (groups said) n []));
+          rw (all, take-append-le n (groups said) (numbered_groups (groups_count more) (k + 1) (length said) more) short) (first_of write_of_group (groups said) n []));
       stored = (groups_count said, sym (groups_join said) ∙ ap (λ (g : List Group). flat_map (λ (g : Group). g.bytes) g) (sym first_ones));
     }
 
@@ -122,7 +122,7 @@ count_most xs ys le =
 
 -- the WRITEs of what is stored are among those that were said
 writes_came : (c s : List Event) (said_ended ended : Bool) (said bytes stored : List ℕ) → HasSaid c s said_ended said → IsSaidOf said_ended said ended bytes → IsPrefix stored said
-    → IsPrefix (map write_of (take (groups_count stored) (groups bytes))) (messages_delivered Server usual_limits s)
+    → IsPrefix (map write_of_group (take (groups_count stored) (groups bytes))) (messages_delivered Server usual_limits s)
 writes_came c s said_ended ended said bytes stored h o stores =
     rw (h.to_server, h.requests) (o.first (groups_count stored) (count_most stored said (prefix_length stored said stores)))
 
@@ -142,7 +142,7 @@ told_first course c s said_ended said text c_more s_more log begins h o stores =
 
 pub sound_of : (c s : List Event) (said_ended ended : Bool) (said bytes stored text : List ℕ) → HasSaid c s said_ended said → IsSaidOf said_ended said ended bytes → IsPrefix stored said
     → (0 < length stored → IsToldFirst (record { client = c; server = s; bytes = bytes; ended = ended; stored = stored; text = text }))
-    → IsSound (record { client = c; server = s; bytes = bytes; ended = ended; stored = stored; text = text })
+    → IsSoundCourse (record { client = c; server = s; bytes = bytes; ended = ended; stored = stored; text = text })
 sound_of c s said_ended ended said bytes stored text h o stores first = record {
   joint = h.joint;
   client_uncut = h.client_uncut;

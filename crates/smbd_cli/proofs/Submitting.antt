@@ -8,34 +8,34 @@ use Rattle.smbd_base.specs.declared.event.Event.TheVariants.{Submit}
 use Rattle.smbd_base.specs.Limits.{usual_limits}
 use Rattle.smbd_base.specs.History.{submit_fault}
 use Rattle.connection_core.specs.Shown.{Shown}
-use Rattle.smbd_cli.specs.Requests.{write_request, end_request}
-use Rattle.smbd_cli.specs.Put.{AreRequests, with_submitted, writes_at}
-use Rattle.smbd_cli.specs.PutRun.{groups_from, groups_count, write_of}
+use Rattle.smbd_cli.specs.Requests.{write_request_bytes, end_request_bytes}
+use Rattle.smbd_cli.specs.Put.{HaveHeaders, with_submitted, writes_at}
+use Rattle.smbd_cli.specs.PutRun.{numbered_groups, groups_count, write_of_group}
 use Rattle.smbd_cli.specs.Settled.{IsSettled, FitsPut, AllFitPut}
 use Rattle.smbd_cli.proofs.Resting.{may_submit, settled_submit}
 
 -- ---- requests fit
 
-pub fits_write : (id offset : ℕ) (bytes : List ℕ) → length bytes ≤ 65536 → FitsPut (write_request id offset bytes)
+pub fits_write : (id offset : ℕ) (bytes : List ℕ) → length bytes ≤ 65536 → FitsPut (write_request_bytes id offset bytes)
 fits_write id offset bytes short =
-    let len : length (write_request id offset bytes) ≡ 24 + length bytes = omega arith in
+    let len : length (write_request_bytes id offset bytes) ≡ 24 + length bytes = omega arith in
     record { some = omega (arith, len); short = omega (arith, len) }
 
-pub whole_write : (id offset : ℕ) (bytes : List ℕ) → 24 ≤ length (write_request id offset bytes)
-whole_write id offset bytes = let len : length (write_request id offset bytes) ≡ 24 + length bytes = omega arith in omega (arith, len)
+pub whole_write : (id offset : ℕ) (bytes : List ℕ) → 24 ≤ length (write_request_bytes id offset bytes)
+whole_write id offset bytes = let len : length (write_request_bytes id offset bytes) ≡ 24 + length bytes = omega arith in omega (arith, len)
 
-pub fits_end : (id offset : ℕ) → FitsPut (end_request id offset)
+pub fits_end : (id offset : ℕ) → FitsPut (end_request_bytes id offset)
 fits_end id offset = record { some = lit< tt; short = lit≤ tt }
 
-pub whole_end : (id offset : ℕ) → 24 ≤ length (end_request id offset)
+pub whole_end : (id offset : ℕ) → 24 ≤ length (end_request_bytes id offset)
 whole_end id offset = lit≤ tt
 
-pub writes_fit : (n number offset : ℕ) (bytes : List ℕ) → AllFitPut (map write_of (groups_from n number offset bytes))
+pub writes_fit : (n number offset : ℕ) (bytes : List ℕ) → AllFitPut (map write_of_group (numbered_groups n number offset bytes))
 writes_fit zero number offset bytes = tt
 writes_fit (suc n) number offset bytes =
     (fits_write number offset (take 65536 bytes) (omega (arith, length-take 65536 bytes)), writes_fit n (number + 1) (offset + 65536) (drop 65536 bytes))
 
-pub writes_whole : (n number offset : ℕ) (bytes : List ℕ) → AreRequests (map write_of (groups_from n number offset bytes))
+pub writes_whole : (n number offset : ℕ) (bytes : List ℕ) → HaveHeaders (map write_of_group (numbered_groups n number offset bytes))
 writes_whole zero number offset bytes = tt
 writes_whole (suc n) number offset bytes = (whole_write number offset (take 65536 bytes), writes_whole n (number + 1) (offset + 65536) (drop 65536 bytes))
 
@@ -49,7 +49,7 @@ pub record IsGroup (offset : ℕ) (rest group later : List ℕ) : Type 0 where
   pub groups : offset % 65536 ≡ 0
 
 last_group : (offset : ℕ) (rest group later : List ℕ) → IsGroup offset rest group later → length rest < 65536
-    → writes_at offset rest ≡ write_request (offset / 65536 + 1) offset group ∷ writes_at (offset + length group) later
+    → writes_at offset rest ≡ write_request_bytes (offset / 65536 + 1) offset group ∷ writes_at (offset + length group) later
 last_group offset rest group later g short =
     let len : length rest ≡ length group + length later = ap length g.parts ∙ length-append group later in
     let none : later ≡ [] = nil_from_length later (omega (arith, len, g.size)) in
@@ -59,7 +59,7 @@ last_group offset rest group later g short =
     rw (one, all, none) refl
 
 full_group : (offset : ℕ) (rest group later : List ℕ) → IsGroup offset rest group later → 65536 ≤ length rest
-    → writes_at offset rest ≡ write_request (offset / 65536 + 1) offset group ∷ writes_at (offset + length group) later
+    → writes_at offset rest ≡ write_request_bytes (offset / 65536 + 1) offset group ∷ writes_at (offset + length group) later
 full_group offset rest group later g long =
     let len : length rest ≡ length group + length later = ap length g.parts ∙ length-append group later in
     let full : length group ≡ 65536 = omega (arith, g.size) in
@@ -70,7 +70,7 @@ full_group offset rest group later g long =
     rw (count, first, others, full, number) refl
 
 pub first_group : (offset : ℕ) (rest group later : List ℕ) → IsGroup offset rest group later
-    → writes_at offset rest ≡ write_request (offset / 65536 + 1) offset group ∷ writes_at (offset + length group) later
+    → writes_at offset rest ≡ write_request_bytes (offset / 65536 + 1) offset group ∷ writes_at (offset + length group) later
 first_group offset rest group later g =
     elim (cases_lt (length rest) 65536) [
       | inl short ↦ last_group offset rest group later g short
@@ -106,12 +106,12 @@ pub group_is : (client now : Shown) (before offset id : ℕ) (bytes rest group l
 group_is client now before offset id bytes rest group later h parts size some = record { parts = parts; size = size; some = some; groups = h.groups some }
 
 pub accepts_write : (client now : Shown) (before offset id : ℕ) (bytes rest group later message : List ℕ) → HasSubmitted client now before bytes offset id rest
-    → IsGroup offset rest group later → message ≡ write_request (id + 1) offset group → submit_fault now.side now.limits now.past message ≡ None
+    → IsGroup offset rest group later → message ≡ write_request_bytes (id + 1) offset group → submit_fault now.side now.limits now.past message ≡ None
 accepts_write client now before offset id bytes rest group later message h g is =
-    rw (h.limits, is) (may_submit now.side now.past (write_request (id + 1) offset group) h.settled (fits_write (id + 1) offset group (omega (arith, g.size))))
+    rw (h.limits, is) (may_submit now.side now.past (write_request_bytes (id + 1) offset group) h.settled (fits_write (id + 1) offset group (omega (arith, g.size))))
 
 pub submitted_more : (client now next : Shown) (before offset id : ℕ) (bytes rest group later message : List ℕ) → HasSubmitted client now before bytes offset id rest
-    → IsGroup offset rest group later → message ≡ write_request (id + 1) offset group → next ≡ record now { past = Submit message ∷ now.past; prepared = None }
+    → IsGroup offset rest group later → message ≡ write_request_bytes (id + 1) offset group → next ≡ record now { past = Submit message ∷ now.past; prepared = None }
     → HasSubmitted client next before bytes (offset + length group) (id + 1) later
 submitted_more client now next before offset id bytes rest group later message h g is next_is =
     let len : length rest ≡ length group + length later = ap length g.parts ∙ length-append group later in
@@ -120,7 +120,7 @@ submitted_more client now next before offset id bytes rest group later message h
     let size = g.size in
     let number = h.number in
     let id_is : id + 1 ≡ offset / 65536 + 1 = omega arith in
-    let m_is : message ≡ write_request (offset / 65536 + 1) offset group = is ∙ ap (λ (i : ℕ). write_request i offset group) id_is in
+    let m_is : message ≡ write_request_bytes (offset / 65536 + 1) offset group = is ∙ ap (λ (i : ℕ). write_request_bytes i offset group) id_is in
     let side : next.side ≡ now.side = ap (λ (e : Shown). e.side) next_is in
     let past : next.past ≡ Submit message ∷ now.past = ap (λ (e : Shown). e.past) next_is in
     let fits : FitsPut message = subst FitsPut (sym is) (fits_write (id + 1) offset group (omega arith)) in

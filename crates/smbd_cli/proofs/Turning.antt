@@ -17,13 +17,13 @@ use Rattle.smbd_outside.specs.declared.status.Status.TheVariants.{Done, NoMemory
 use Rattle.smbd_outside.specs.Streams.{AppendsFront}
 use Rattle.connection_core.specs.Shown.{Shown}
 use Rattle.run_log.specs.declared.telling.Told.{Told}
-use Rattle.smbd_cli.specs.Carried.{opened, usual_request, usual_response, with_past, agreed_client, agreed_server}
+use Rattle.smbd_cli.specs.Carried.{opened, usual_request, usual_response, with_past, usual_agreed_client, usual_agreed_server}
 use Rattle.smbd_cli.specs.Requests.{reply_for}
 use Rattle.run_log.specs.NewLines.{told_after, told_of}
 use Rattle.run_log.specs.RunLines.{event_line}
 use Rattle.run_log.proofs.Tellable.{taken_few}
 use Rattle.smbd_cli.specs.LogText.{lines_at, lines_of_ends, IsLog}
-use Rattle.smbd_cli.specs.Progress.{moved, HasSaid, IsBetween, IsBeforeTurn, IsAfterTurn, StopsReading}
+use Rattle.smbd_cli.specs.Progress.{moved, HasSaid, IsBetweenTurns, IsBeforeTurn, IsAfterTurn, StopsReading}
 use Rattle.smbd_cli.specs.Promise.{Stream, KeepsPromise}
 use Rattle.smbd_cli.specs.Put.{HasPut}
 use Rattle.smbd_cli.specs.Settled.{GoesOn}
@@ -146,7 +146,7 @@ stops_opening client server ce se ct st source sink log log_now source_faults si
 pub between_opening : (client server : Shown) (ce se : List Event) (ct st ct_now st_now : Told) (source sink log log_now : Option (List ℕ)) (source_faults sink_faults log_faults log_faults_now : ℕ)
     → client ≡ opened Client → server ≡ opened Server → reverse ce ≡ client.past → reverse se ≡ server.past → ct ≡ untold → st ≡ untold
     → Appends log log_now (new_text ct st ce se) → ct_now ≡ told_after ct ce → st_now ≡ told_after st se → log_faults ≤ log_faults_now
-    → IsBetween (same source source_faults) (same sink sink_faults) (moved (same log log_faults) log_now log_faults_now) opening opening ct_now st_now false []
+    → IsBetweenTurns (same source source_faults) (same sink sink_faults) (moved (same log log_faults) log_now log_faults_now) opening opening ct_now st_now false []
 between_opening client server ce se ct st ct_now st_now source sink log log_now source_faults sink_faults log_faults log_faults_now c s c_is s_is ct_is st_is logged ct_now_is st_now_is later =
     record {
       so_far = record {
@@ -169,7 +169,7 @@ between_opening client server ce se ct st ct_now st_now source sink log log_now 
 
 -- the bytes of the next turn were read
 pub next_turn : (source sink log : Stream) (c s : List Event) (client server : Shown) (ct st : Told) (bytes more : List ℕ) (ended : Bool) (source_now : Option (List ℕ)) (faults : ℕ)
-    → IsBetween source sink log c s ct st false bytes → GoesOn c client.past → GoesOn s server.past → HasPut client server false bytes
+    → IsBetweenTurns source sink log c s ct st false bytes → GoesOn c client.past → GoesOn s server.past → HasPut client server false bytes
     → Consumes source.now source_now more → source.faults ≤ faults → length bytes + length more ≤ 16777216 → (ended ≡ true → IsAtEnd source_now) → (ended ≡ false → length more ≡ 262144)
     → IsBeforeTurn (moved source source_now faults) sink log client server ct st (length bytes) more ended
 next_turn source sink log c s client server ct st bytes more ended source_now faults b c_more s_more put read later short last whole = record {
@@ -190,13 +190,13 @@ next_turn source sink log c s client server ct st bytes more ended source_now fa
 }
 
 -- the ends went on from their opening
-pub went_on : (client client_now : Shown) → client_now ≡ with_past client agreed_client → GoesOn opening client_now.past
+pub went_on : (client client_now : Shown) → client_now ≡ with_past client usual_agreed_client → GoesOn opening client_now.past
 went_on client client_now is = (
   Post 1 ∷ Take usual_response ∷ Emit usual_request ∷ [],
   ap (λ (e : Shown). e.past) is,
 )
 
-pub went_on_server : (server server_now : Shown) → server_now ≡ with_past server agreed_server → GoesOn opening server_now.past
+pub went_on_server : (server server_now : Shown) → server_now ≡ with_past server usual_agreed_server → GoesOn opening server_now.past
 went_on_server server server_now is = (
   Emit usual_response ∷ Post 1 ∷ Take usual_request ∷ [],
   ap (λ (e : Shown). e.past) is,
@@ -211,14 +211,14 @@ told_within past now told is more = rw is (omega (arith, ap length more.1, lengt
 -- the last one
 pub turned_done : (source sink log : Stream) (client server : Shown) (ct st : Told) (ended : Bool) (all : ℕ) → IsAfterTurn source sink log client server ct st ended all → ended ≡ true → KeepsPromise Done source sink log
 turned_done source sink log client server ct st ended all a last =
-    stops_done source sink log client.past server.past ct st a.bytes (subst (λ (e : Bool). IsBetween source sink log client.past server.past ct st e a.bytes) last a.so_far)
+    stops_done source sink log client.past server.past ct st a.bytes (subst (λ (e : Bool). IsBetweenTurns source sink log client.past server.past ct st e a.bytes) last a.so_far)
 
 -- or another follows
 pub turned : (source sink log : Stream) (client server : Shown) (ct st : Told) (ended : Bool) (all : ℕ) (more : List ℕ) (end : Bool) (source_now : Option (List ℕ)) (faults : ℕ)
     → IsAfterTurn source sink log client server ct st ended all → ended ≡ false → Consumes source.now source_now more → source.faults ≤ faults → all + length more ≤ 16777216
     → (end ≡ true → IsAtEnd source_now) → (end ≡ false → length more ≡ 262144) → IsBeforeTurn (moved source source_now faults) sink log client server ct st all more end
 turned source sink log client server ct st ended all more end source_now faults a going read later short last whole =
-    let b = subst (λ (e : Bool). IsBetween source sink log client.past server.past ct st e a.bytes) going a.so_far in
+    let b = subst (λ (e : Bool). IsBetweenTurns source sink log client.past server.past ct st e a.bytes) going a.so_far in
     let put = subst (λ (e : Bool). HasPut client server e a.bytes) going a.put in
     subst (λ (n : ℕ). IsBeforeTurn (moved source source_now faults) sink log client server ct st n more end) a.bytes_are
     (next_turn source sink log client.past server.past client server ct st a.bytes more end source_now faults b ([], refl) ([], refl) put read later (omega (arith, short, a.bytes_are)) last whole)
@@ -227,6 +227,6 @@ pub turned_reading : (source sink log : Stream) (client server : Shown) (ct st :
     → IsAfterTurn source sink log client server ct st ended all → ended ≡ false → Consumes source.now source_now more → StopsReading status all (length more) source.faults faults
     → KeepsPromise status (moved source source_now faults) sink log
 turned_reading source sink log client server ct st ended all more source_now faults status a going read stops =
-    let b = subst (λ (e : Bool). IsBetween source sink log client.past server.past ct st e a.bytes) going a.so_far in
+    let b = subst (λ (e : Bool). IsBetweenTurns source sink log client.past server.past ct st e a.bytes) going a.so_far in
     stops_reading source sink log client.past server.past ct st a.bytes b more source_now faults status read
     (subst (λ (n : ℕ). StopsReading status n (length more) source.faults faults) (sym a.bytes_are) stops)

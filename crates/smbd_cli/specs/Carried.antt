@@ -44,11 +44,11 @@ abbrev pub usual_response : List ℕ
 usual_response = response_bytes (answer_to (request_of_limits usual_limits) usual_limits 255)
 
 -- both ends after the negotiation
-abbrev pub agreed_client : List Event
-agreed_client = Post 1 ∷ Take usual_response ∷ Emit usual_request ∷ Post 255 ∷ []
+abbrev pub usual_agreed_client : List Event
+usual_agreed_client = Post 1 ∷ Take usual_response ∷ Emit usual_request ∷ Post 255 ∷ []
 
-abbrev pub agreed_server : List Event
-agreed_server = Emit usual_response ∷ Post 1 ∷ Take usual_request ∷ Post 255 ∷ []
+abbrev pub usual_agreed_server : List Event
+usual_agreed_server = Emit usual_response ∷ Post 1 ∷ Take usual_request ∷ Post 255 ∷ []
 
 -- the same end with this past, and nothing prepared
 abbrev pub with_past : Shown → List Event → Shown

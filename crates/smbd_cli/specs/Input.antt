@@ -5,18 +5,19 @@ use Rattle.smbd_outside.specs.declared.status.Status.{Status}
 use Rattle.smbd_outside.specs.declared.status.Status.TheVariants.{Done, Usage, ReadFault, WriteFault, LogFault, TooLong, Cut, BadInput, NoMemory}
 use Rattle.smbd_outside.specs.Causes.{Rose}
 use Rattle.smbd_cli.specs.Promise.{Stream}
+use Rattle.smbd_cli.specs.Sizes.{most_bytes}
 
 -- these are all the bytes that the source had, and no more than may be read
 pub record IsInput (source : Stream) (bytes : List ℕ) : Type 0 where
   pub read : Consumes source.before source.now bytes
   pub at_end : IsAtEnd source.now
-  pub short : length bytes ≤ 16777216
+  pub short : length bytes ≤ most_bytes
 
 -- when the reading of these bytes stops short, and with which status
 abbrev pub CutsInput : Status → Stream → List ℕ → Type 0
-CutsInput ReadFault source bytes = (length bytes ≤ 16777216) × Rose source.faults_before source.faults
-CutsInput TooLong source bytes = 16777216 < length bytes
-CutsInput NoMemory source bytes = length bytes ≤ 16777216
+CutsInput ReadFault source bytes = (length bytes ≤ most_bytes) × Rose source.faults_before source.faults
+CutsInput TooLong source bytes = most_bytes < length bytes
+CutsInput NoMemory source bytes = length bytes ≤ most_bytes
 CutsInput Done source bytes = ⊥
 CutsInput Usage source bytes = ⊥
 CutsInput WriteFault source bytes = ⊥

@@ -10,4 +10,5 @@ pub mod Put
 pub mod PutRun
 pub mod Requests
 pub mod Settled
+pub mod Sizes
 pub mod Telling

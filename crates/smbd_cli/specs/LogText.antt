@@ -7,12 +7,12 @@ use Rattle.smbd_base.specs.declared.event.Event.{Event}
 use Rattle.run_log.specs.RunLines.{history_lines}
 
 -- a line of a log, without its line feed, and the side whose line it is
-pub record Entry : Type 0 where
+pub record LogEntry : Type 0 where
   pub side : EndId
   pub line : List ℕ
 
 -- the bytes of a log, a line feed after each line
-abbrev pub entries_text : List Entry → List ℕ
+abbrev pub entries_text : List LogEntry → List ℕ
 entries_text [] = []
 entries_text (e ∷ entries) = (e.line ++ codes "\n") ++ entries_text entries
 
@@ -24,7 +24,7 @@ own_line Server Client line = []
 own_line Server Server line = line ∷ []
 
 -- the lines of one side, in their order
-abbrev pub lines_at : EndId → List Entry → List (List ℕ)
+abbrev pub lines_at : EndId → List LogEntry → List (List ℕ)
 lines_at side [] = []
 lines_at side (e ∷ entries) = own_line side e.side e.line ++ lines_at side entries
 
@@ -36,12 +36,12 @@ lines_of_ends client server Server = history_lines Server server
 -- The text is a log of these histories: a list of lines, of which each side's, in order, are the lines of its history.
 -- The first line is the client's, its opening post, and the second the server's.
 pub record IsLog (client server : List Event) (text : List ℕ) : Type 0 where
-  pub entries : List Entry
+  pub entries : List LogEntry
   pub all : text ≡ entries_text entries
   pub each : (side : EndId) → lines_at side entries ≡ lines_of_ends client server side
   pub first : List ℕ
   pub second : List ℕ
-  pub later : List Entry
+  pub later : List LogEntry
   pub opening : entries ≡ (record { side = Client; line = first }) ∷ (record { side = Server; line = second }) ∷ later
 
 -- the text begins such a log, its last line perhaps cut short

@@ -13,6 +13,7 @@ use Rattle.smbd_cli.specs.declared.options.Plain.{Plain}
 use Rattle.smbd_cli.specs.declared.options.Plain.TheVariants.{Sim}
 use Rattle.smbd_cli.specs.Input.{IsInput, CutsInput}
 use Rattle.smbd_cli.specs.Promise.{Stream, IsSilent}
+use Rattle.smbd_cli.specs.Sizes.{most_bytes}
 
 -- the number of the first line of an input that is not understood, where there is one
 abbrev pub bad_line : Plain → List ℕ → Option ℕ
@@ -37,7 +38,7 @@ EndsPlain (BadInput line) command source sink input written =
     IsInput source input × (bad_line command input ≡ Some line) × (written ≡ [])
 EndsPlain ReadFault command source sink input written = CutsInput ReadFault source input × (written ≡ [])
 EndsPlain TooLong command source sink input written = CutsInput TooLong source input × (written ≡ [])
-EndsPlain NoMemory command source sink input written = (length input ≤ 16777216) × (written ≡ [])
+EndsPlain NoMemory command source sink input written = (length input ≤ most_bytes) × (written ≡ [])
 EndsPlain Usage command source sink input written = ⊥
 EndsPlain LogFault command source sink input written = ⊥
 EndsPlain Cut command source sink input written = ⊥
@@ -53,14 +54,14 @@ pub record KeepsPlainPromise (status : Status) (command : Plain) (source sink : 
 -- neither source nor sink fails, and the source tells its bytes, of which there are no more than may be read
 pub record IsFairPlain (source sink : Stream) (input : List ℕ) : Type 0 where
   pub told : source.before ≡ Some input
-  pub short : length input ≤ 16777216
+  pub short : length input ≤ most_bytes
   pub reads : IsSilent source
   pub writes : IsSilent sink
 
 -- the status of an input whose first bad line is this one, or that has none
-abbrev pub status_of : Option ℕ → Status
-status_of None = Done
-status_of (Some line) = BadInput line
+abbrev pub status_by_line : Option ℕ → Status
+status_by_line None = Done
+status_by_line (Some line) = BadInput line
 
 -- why a text has no lines of a run
 abbrev pub StopsScript : Status → List ℕ → Type 0

@@ -18,6 +18,7 @@ use Rattle.smbd_cli.specs.Promise.{Stream}
 use Rattle.smbd_cli.specs.Put.{HasPut}
 use Rattle.smbd_cli.specs.PutRun.{put_requests, put_replies, RepliesFollow}
 use Rattle.smbd_cli.specs.Settled.{GoesOn}
+use Rattle.smbd_cli.specs.Sizes.{most_bytes, turn_size}
 
 -- a stream that has come so far
 abbrev pub moved : Stream → Option (List ℕ) → ℕ → Stream
@@ -51,13 +52,13 @@ pub record IsStored (sink log : Stream) (client server : List Event) (client_tol
   pub stored : Appends sink.before sink.now bytes
 
 -- Between two turns: all that was read was stored.
-pub record IsBetween (source sink log : Stream) (client server : List Event) (client_told server_told : Told) (ended : Bool) (bytes : List ℕ) : Type 0 where
+pub record IsBetweenTurns (source sink log : Stream) (client server : List Event) (client_told server_told : Told) (ended : Bool) (bytes : List ℕ) : Type 0 where
   pub so_far : IsStored sink log client server client_told server_told ended bytes
   pub read : Consumes source.before source.now bytes
   pub counted : HasCounted source sink log
-  pub short : length bytes ≤ 16777216
+  pub short : length bytes ≤ most_bytes
   pub last : ended ≡ true → IsAtEnd source.now
-  pub turns : ended ≡ false → length bytes % 262144 ≡ 0
+  pub turns : ended ≡ false → length bytes % turn_size ≡ 0
 
 -- Before a turn: these bytes were read after the earlier ones, which were stored. The ends may have spoken since the log was told.
 pub record IsBeforeTurn (source sink log : Stream) (client server : Shown) (client_told server_told : Told) (before : ℕ) (bytes : List ℕ) (ended : Bool) : Type 0 where
@@ -71,20 +72,20 @@ pub record IsBeforeTurn (source sink log : Stream) (client server : Shown) (clie
   pub read : Consumes source.before source.now (earlier ++ bytes)
   pub earlier_is : length earlier ≡ before
   pub counted : HasCounted source sink log
-  pub short : before + length bytes ≤ 16777216
+  pub short : before + length bytes ≤ most_bytes
   pub last : ended ≡ true → IsAtEnd source.now
-  pub groups : before % 262144 ≡ 0
-  pub turns : ended ≡ false → length bytes ≡ 262144
+  pub groups : before % turn_size ≡ 0
+  pub turns : ended ≡ false → length bytes ≡ turn_size
 
 -- after a turn: all that was read was stored, and both ends can go on
 pub record IsAfterTurn (source sink log : Stream) (client server : Shown) (client_told server_told : Told) (ended : Bool) (all : ℕ) : Type 0 where
   pub bytes : List ℕ
   pub put : HasPut client server ended bytes
-  pub so_far : IsBetween source sink log client.past server.past client_told server_told ended bytes
+  pub so_far : IsBetweenTurns source sink log client.past server.past client_told server_told ended bytes
   pub bytes_are : length bytes ≡ all
 
 -- how the reading of the bytes of a turn may stop, so many bytes having been read before and so many now
 abbrev pub StopsReading : Status → ℕ → ℕ → ℕ → ℕ → Type 0
 StopsReading status before read faults_before faults =
-    ((status ≡ TooLong) × (16777216 < before + read))
-    ⊎ ((status ≡ ReadFault) × (before + read ≤ 16777216) × Rose faults_before faults)
+    ((status ≡ TooLong) × (most_bytes < before + read))
+    ⊎ ((status ≡ ReadFault) × (before + read ≤ most_bytes) × Rose faults_before faults)

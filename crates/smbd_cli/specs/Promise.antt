@@ -15,8 +15,9 @@ use Rattle.smbd_outside.specs.declared.status.Status.{Status}
 use Rattle.smbd_outside.specs.declared.status.Status.TheVariants.{Done, Usage, ReadFault, WriteFault, LogFault, TooLong, Cut, BadInput, NoMemory}
 use Rattle.smbd_outside.specs.Causes.{Rose}
 use Rattle.smbd_cli.specs.LogText.{IsLog, BeginsLog}
-use Rattle.smbd_cli.specs.PutRun.{Group, groups, groups_count, write_of, put_requests, put_replies, RepliesFollow}
+use Rattle.smbd_cli.specs.PutRun.{Group, groups, groups_count, write_of_group, put_requests, put_replies, RepliesFollow}
 use Rattle.smbd_cli.specs.Settled.{GoesOn}
+use Rattle.smbd_cli.specs.Sizes.{group_size, most_bytes}
 
 -- ---- what a copy was handed
 
@@ -59,11 +60,11 @@ pub record IsToldFirst (c : Course) : Type 0 where
   pub text : List ℕ
   pub log : IsLog client server text
   pub begins : IsPrefix text c.text
-  pub brought : IsPrefix (map write_of (take (groups_count c.stored) (groups c.bytes))) (messages_delivered Server usual_limits server)
+  pub brought : IsPrefix (map write_of_group (take (groups_count c.stored) (groups c.bytes))) (messages_delivered Server usual_limits server)
 
 -- the bytes of which requests can be made: whole groups, where the end was not seen
 abbrev pub usable : Bool → List ℕ → List ℕ
-usable ended bytes = if ended then bytes else take (length bytes / 65536 * 65536) bytes
+usable ended bytes = if ended then bytes else take (length bytes / group_size * group_size) bytes
 
 -- the run of a put without registered pages, of which there are no page events
 pub record IsPutRun (c : Course) : Type 0 where
@@ -74,11 +75,11 @@ pub record IsPutRun (c : Course) : Type 0 where
   pub answered : RepliesFollow c.server
   -- the sink gets the bytes in order, each group after the WRITE that brought it was delivered, and after the log told so
   pub stores : IsPrefix c.stored c.bytes
-  pub brought : IsPrefix (map write_of (take (groups_count c.stored) (groups c.bytes))) (messages_delivered Server usual_limits c.server)
+  pub brought : IsPrefix (map write_of_group (take (groups_count c.stored) (groups c.bytes))) (messages_delivered Server usual_limits c.server)
   pub told_first : 0 < length c.stored → IsToldFirst c
 
 -- what holds of a copy however it ends
-pub record IsSound (c : Course) : Type 0 where
+pub record IsSoundCourse (c : Course) : Type 0 where
   -- both ends follow their rules, no frame was refused, and each took what the other sent, in order; the credits of each
   -- direction balance; and the two histories fit into one order of time
   pub joint : AreJoint usual_limits usual_limits c.client c.server
@@ -100,7 +101,7 @@ pub record IsSound (c : Course) : Type 0 where
 
 -- no more was read than may be copied
 abbrev pub IsShort : Course → Type 0
-IsShort c = length c.bytes ≤ 16777216
+IsShort c = length c.bytes ≤ most_bytes
 
 -- the sink got the bytes of whole groups, the last one of the copy included where it is shorter
 abbrev pub StoresGroups : Course → Type 0
@@ -115,7 +116,7 @@ abbrev pub IsLogCut : Course → Type 0
 IsLogCut c = BeginsLog c.client c.server c.text
 
 -- nothing is missing: the source was read to its end, the sink got just its bytes, and END's reply was taken
-pub record IsWhole (c : Course) : Type 0 where
+pub record IsWholeCourse (c : Course) : Type 0 where
   pub logged : IsLogged c
   pub short : IsShort c
   pub ended : c.ended ≡ true
@@ -124,11 +125,11 @@ pub record IsWhole (c : Course) : Type 0 where
 
 -- When each status comes, and what it leaves. Where the source failed, or had too much, its end was not seen.
 abbrev pub Ends : Status → Stream → Stream → Stream → Course → Type 0
-Ends Done source sink log c = IsWhole c × IsAtEnd source.now
+Ends Done source sink log c = IsWholeCourse c × IsAtEnd source.now
 Ends ReadFault source sink log c = IsLogged c × IsShort c × StoresGroups c × Rose source.faults_before source.faults × (c.ended ≡ false)
 Ends WriteFault source sink log c = IsLogged c × IsShort c × Rose sink.faults_before sink.faults
 Ends LogFault source sink log c = IsLogCut c × IsShort c × StoresGroups c × Rose log.faults_before log.faults
-Ends TooLong source sink log c = IsLogged c × (16777216 < length c.bytes) × StoresGroups c × (c.ended ≡ false)
+Ends TooLong source sink log c = IsLogged c × (most_bytes < length c.bytes) × StoresGroups c × (c.ended ≡ false)
 Ends NoMemory source sink log c = IsLogCut c × IsShort c × StoresGroups c
 Ends Usage source sink log c = ⊥
 Ends Cut source sink log c = ⊥
@@ -139,7 +140,7 @@ Ends (BadInput line) source sink log c = ⊥
 pub record KeepsPromise (status : Status) (source sink log : Stream) : Type 0 where
   pub course : Course
   pub moves : Moves source sink log course
-  pub sound : IsSound course
+  pub sound : IsSoundCourse course
   pub ends : Ends status source sink log course
 
 -- ---- a copy succeeds
@@ -151,7 +152,7 @@ IsSilent s = Rose s.faults_before s.faults → ⊥
 -- neither source, sink nor log fails, and the source tells its bytes, of which there are no more than may be copied
 pub record IsFair (source sink log : Stream) (bytes : List ℕ) : Type 0 where
   pub told : source.before ≡ Some bytes
-  pub short : length bytes ≤ 16777216
+  pub short : length bytes ≤ most_bytes
   pub reads : IsSilent source
   pub writes : IsSilent sink
   pub logs : IsSilent log

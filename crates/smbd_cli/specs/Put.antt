@@ -10,13 +10,14 @@ use Rattle.smbd_base.specs.History.{messages_submitted}
 use Rattle.smbd_base.specs.Delivery.{messages_delivered}
 use Rattle.connection_core.specs.Shown.{Shown}
 use Rattle.smbd_cli.specs.Requests.{reply_for, carried_by}
-use Rattle.smbd_cli.specs.PutRun.{groups_from, groups_count, write_of, put_requests, RepliesFollow}
+use Rattle.smbd_cli.specs.PutRun.{numbered_groups, groups_count, write_of_group, put_requests, RepliesFollow}
 use Rattle.smbd_cli.specs.Settled.{AreBeside, HasSent, GoesOn}
+use Rattle.smbd_cli.specs.Sizes.{group_size}
 
 -- a request has a header
-abbrev pub AreRequests : List (List ℕ) → Type 0
-AreRequests [] = Unit {0}
-AreRequests (m ∷ ms) = (24 ≤ length m) × AreRequests ms
+abbrev pub HaveHeaders : List (List ℕ) → Type 0
+HaveHeaders [] = Unit {0}
+HaveHeaders (m ∷ ms) = (24 ≤ length m) × HaveHeaders ms
 
 -- A client and a server between two requests: the server has replied to each request that came, and the client has each
 -- reply. Requests may wait at the client.
@@ -24,7 +25,7 @@ pub record AreAtRest (client server : List Event) : Type 0 where
   pub pair : AreBeside Client Server client server
   pub sent : HasSent Server client server
   pub replies_sent : HasSent Client server client
-  pub requests : AreRequests (messages_submitted client)
+  pub requests : HaveHeaders (messages_submitted client)
   pub replied : messages_submitted server ≡ map reply_for (messages_delivered Server usual_limits server)
   pub answered : messages_delivered Client usual_limits client ≡ messages_submitted server
   pub follows : RepliesFollow server
@@ -63,7 +64,7 @@ with_submitted (m ∷ ms) past = with_submitted ms (Submit m ∷ past)
 
 -- the WRITEs for these bytes, so many bytes of the copy standing before them in whole groups
 abbrev pub writes_at : ℕ → List ℕ → List (List ℕ)
-writes_at before bytes = map write_of (groups_from (groups_count bytes) (before / 65536 + 1) before bytes)
+writes_at before bytes = map write_of_group (numbered_groups (groups_count bytes) (before / group_size + 1) before bytes)
 
 -- a put of these bytes, as far as its requests were submitted: each was answered
 pub record HasPut (client server : Shown) (ended : Bool) (bytes : List ℕ) : Type 0 where

@@ -9,6 +9,7 @@ ghost use Rattle.smbd_cli.specs.Ends.{client_of, server_of};
 ghost use Rattle.smbd_cli.specs.Progress.{moved, IsBeforeTurn, IsAfterTurn, StopsReading};
 ghost use Rattle.smbd_cli.specs.Promise.{stream_of, Stream, KeepsPromise, IsFair, IsCopied};
 ghost use Rattle.smbd_cli.specs.Put.{ArePair, HasCaughtUp};
+ghost use Rattle.smbd_cli.specs.Sizes.{group_size, most_bytes, turn_size};
 
 use crate::exchange::negotiate;
 use crate::input::MOST;
@@ -123,17 +124,17 @@ fn copy_between<S: Source, K: Sink, L: Sink>(
 /// Reads the bytes of the next turn into an empty buffer, so many having been read before. Answers whether they are the
 /// last.
 fn read_turn<S: Source>(source: &mut S, bytes: &mut Vec<u8>, before: u64) -> Result<bool, Status>
-    requires room { 262144 ≤ vec_capacity bytes.old }
+    requires room { turn_size ≤ vec_capacity bytes.old }
     requires empty { bytes.old.items ≡ [] }
-    requires before { before ≤ 16777216 }
-    requires turns { before % 262144 ≡ 0 }
+    requires before { before ≤ most_bytes }
+    requires turns { before % turn_size ≡ 0 }
     ensures read { Consumes (S.left source.old) (S.left source.new) bytes.new.items }
-    ensures short { OnOk result (before + length bytes.new.items ≤ 16777216) }
-    ensures whole { IfOk result (λ last. last ≡ false → length bytes.new.items ≡ 262144) }
+    ensures short { OnOk result (before + length bytes.new.items ≤ most_bytes) }
+    ensures whole { IfOk result (λ last. last ≡ false → length bytes.new.items ≡ turn_size) }
     ensures last { IfOk result (λ last. last ≡ true → IsAtEnd (S.left source.new)) }
     ensures later { S.faults source.old ≤ S.faults source.new }
     ensures stops { IfErr result (λ status. StopsReading status before (length bytes.new.items) (S.faults source.old) (S.faults source.new)) }
-    ensures room { 262144 ≤ vec_capacity bytes.new }
+    ensures room { turn_size ≤ vec_capacity bytes.new }
 {
     let most = TURN.min(MOST + 1 - before as usize);
     match fill(source, bytes, most) {
@@ -159,8 +160,8 @@ fn turn<K: Sink, L: Sink>(
     requires pair { ArePair (client_of world.old) (server_of world.old) }
     requires link { world.old.link_cut ≡ false }
     requires caught_up { HasCaughtUp (client_of world.old) (server_of world.old) }
-    requires groups { before % 65536 ≡ 0 }
-    requires short { before + length bytes.now ≤ 16777216 }
+    requires groups { before % group_size ≡ 0 }
+    requires short { before + length bytes.now ≤ most_bytes }
     requires client { (client_told.old.events ≤ length world.old.client) × (client_told.old.next ≤ client_told.old.events + 1) }
     requires server { (server_told.old.events ≤ length world.old.server) × (server_told.old.next ≤ server_told.old.events + 1) }
 

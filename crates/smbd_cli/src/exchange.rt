@@ -10,7 +10,7 @@ ghost use Rattle.smbd_base.specs.Counts.{peer_of};
 ghost use Rattle.smbd_base.specs.Limits.{usual_limits};
 ghost use Rattle.world_core.specs.Newest.{newest_brought};
 ghost use Rattle.world_core.specs.Run.{past_of, limits_of};
-ghost use Rattle.smbd_cli.specs.Carried.{is_emit, opened, agreed_client, agreed_server, with_past, CanTake, HasCarried};
+ghost use Rattle.smbd_cli.specs.Carried.{is_emit, opened, usual_agreed_client, usual_agreed_server, with_past, CanTake, HasCarried};
 ghost use Rattle.smbd_cli.specs.Ends.{shown_of, client_of, server_of};
 ghost use Rattle.smbd_cli.specs.Settled.{CanSend, HasSentOne};
 
@@ -61,8 +61,8 @@ pub fn negotiate(world: &mut World) -> Result<(), NoMemory>
     requires client { client_of world.old ≡ opened side.Client }
     requires server { server_of world.old ≡ opened side.Server }
     requires link { world.old.link_cut ≡ false }
-    ensures client { OnOk result (client_of world.new ≡ with_past (client_of world.old) agreed_client) }
-    ensures server { OnOk result (server_of world.new ≡ with_past (server_of world.old) agreed_server) }
+    ensures client { OnOk result (client_of world.new ≡ with_past (client_of world.old) usual_agreed_client) }
+    ensures server { OnOk result (server_of world.new ≡ with_past (server_of world.old) usual_agreed_server) }
     ensures link { OnOk result (world.new.link_cut ≡ false) }
 {
     pass_frame(world, EndId::Client, EndId::Server)?;

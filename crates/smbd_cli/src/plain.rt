@@ -4,8 +4,9 @@ ghost use Rattle.std.specs.Prelude.{◌≡◌, ◌⊎◌, ◌≤◌, ℕ, None, 
 ghost use Rattle.sim_script.specs.Scripts.{first_bad_line, script_of};
 ghost use Rattle.run_log.specs.RunLines.{run_lines};
 ghost use Rattle.world_core.specs.Run.{run_of};
-ghost use Rattle.smbd_cli.specs.Plain.{KeepsPlainPromise, IsFairPlain, bad_line, status_of, StopsScript};
+ghost use Rattle.smbd_cli.specs.Plain.{KeepsPlainPromise, IsFairPlain, bad_line, status_by_line, StopsScript};
 ghost use Rattle.smbd_cli.specs.Promise.{stream_of};
+ghost use Rattle.smbd_cli.specs.Sizes.{most_bytes};
 
 use crate::input::read_input;
 use crate::options::Plain;
@@ -31,7 +32,7 @@ pub fn run_plain<S: Source, K: Sink>(
     // Where nothing fails, the input alone says what comes, but for want of memory.
     ensures complete { (input : List ℕ) →
         IsFairPlain (stream_of S.left S.faults source.old source.new) (stream_of K.written K.faults sink.old sink.new) input →
-        (result ≡ status_of (bad_line command.now input)) ⊎ (result ≡ Status.NoMemory) }
+        (result ≡ status_by_line (bad_line command.now input)) ⊎ (result ≡ Status.NoMemory) }
 {
     match run_to_end(alloc, *command, source, sink) {
         Ok(()) => Status::Done,
@@ -63,7 +64,7 @@ fn run_to_end<S: Source, K: Sink>(
 
 /// The log of the run of a script over two ends of these limits.
 fn log_of_script(alloc: Global, limits: EndLimits, text: &[u8]) -> Result<Vec<Line>, Status>
-    requires { length text.now ≤ 16777216 }
+    requires { length text.now ≤ most_bytes }
     ensures good { IfOk result (λ lines. first_bad_line text.now ≡ None) }
     ensures lines { IfOk result (λ lines. lines.items ≡ run_lines (run_of limits limits (script_of text.now))) }
     ensures stops { IfErr result (λ status. StopsScript status text.now) }

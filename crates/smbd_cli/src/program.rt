@@ -5,7 +5,7 @@ ghost use Rattle.smbd_cli.specs.declared.options.CopyCommand.{CopyCommand as Cop
 ghost use Rattle.smbd_cli.specs.declared.options.Plain.{Plain as Waitless};
 ghost use Rattle.smbd_cli.specs.declared.options.Command.TheVariants as commands;
 ghost use Rattle.smbd_cli.specs.Command.{command_of};
-ghost use Rattle.smbd_cli.specs.Plain.{KeepsPlainPromise, IsFairPlain, bad_line, status_of};
+ghost use Rattle.smbd_cli.specs.Plain.{KeepsPlainPromise, IsFairPlain, bad_line, status_by_line};
 ghost use Rattle.smbd_cli.specs.Promise.{stream_of, KeepsPromise, IsFair, IsCopied};
 
 use crate::copy::run_copy;
@@ -45,7 +45,7 @@ pub fn run<S: Source, K: Sink, L: Sink>(
         (stream_of K.written K.faults sink.old sink.new) × (log.new ≡ log.old) }
     ensures plain_complete { (command : Waitless) (input : List ℕ) → command_of words.now ≡ Some (commands.Plain command) →
         IsFairPlain (stream_of S.left S.faults source.old source.new) (stream_of K.written K.faults sink.old sink.new) input →
-        (result ≡ status_of (bad_line command input)) ⊎ (result ≡ Status.NoMemory) }
+        (result ≡ status_by_line (bad_line command input)) ⊎ (result ≡ Status.NoMemory) }
 {
     match command_of(words) {
         Some(Command::Copy(command)) => run_copy(alloc, &command, source, sink, log),

@@ -11,7 +11,8 @@ ghost use Rattle.smbd_outside.specs.Streams.{AppendsFront};
 ghost use Rattle.smbd_cli.specs.Carried.{with_past};
 ghost use Rattle.smbd_cli.specs.Ends.{client_of, server_of};
 ghost use Rattle.smbd_cli.specs.Settled.{IsSettled, GoesOn};
-ghost use Rattle.smbd_cli.specs.Put.{ArePair, AreRequests, HasCaughtUp, HasCalled, HasPut, Waits, stored_by, with_submitted, writes_at};
+ghost use Rattle.smbd_cli.specs.Put.{ArePair, HaveHeaders, HasCaughtUp, HasCalled, HasPut, Waits, stored_by, with_submitted, writes_at};
+ghost use Rattle.smbd_cli.specs.Sizes.{group_size, most_bytes};
 
 use crate::exchange::{send, submit};
 use crate::requests::{answer, carried_by, end_request, write_request};
@@ -39,12 +40,12 @@ pub fn put_groups(
     requires pair { ArePair (client_of world.old) (server_of world.old) }
     requires link { world.old.link_cut ≡ false }
     requires caught_up { HasCaughtUp (client_of world.old) (server_of world.old) }
-    requires groups { before % 65536 ≡ 0 }
-    requires short { before + length bytes.now ≤ 16777216 }
+    requires groups { before % group_size ≡ 0 }
+    requires short { before + length bytes.now ≤ most_bytes }
     ensures put { OnOk result ((earlier : List ℕ) → length earlier ≡ before → HasPut (client_of world.old) (server_of world.old) false earlier
         → HasPut (client_of world.new) (server_of world.new) ended (earlier ++ bytes.now)) }
     ensures stored { IfOk result (λ came. stored_by came.items ≡ bytes.now) }
-    ensures requests { IfOk result (λ came. AreRequests came.items) }
+    ensures requests { IfOk result (λ came. HaveHeaders came.items) }
     ensures client { OnOk result (GoesOn world.old.client world.new.client) }
     ensures server { OnOk result (GoesOn world.old.server world.new.server) }
     ensures link { OnOk result (world.new.link_cut ≡ false) }
@@ -65,8 +66,8 @@ pub fn put_groups(
 
 /// The number of the request before which so many bytes stand.
 fn id_at(before: u64) -> u32
-    requires { before ≤ 16777216 }
-    ensures { result ≡ (before + 65535) / 65536 }
+    requires { before ≤ most_bytes }
+    ensures { result ≡ (before + 65535) / group_size }
 {
     before.div_ceil(GROUP as u64) as u32
 }
@@ -80,8 +81,8 @@ fn submit_writes(
 ) -> Result<(), NoMemory>
     requires limits { world.old.client_limits ≡ usual_limits }
     requires settled { IsSettled Client world.old.client }
-    requires groups { before % 65536 ≡ 0 }
-    requires short { before + length bytes.now ≤ 16777216 }
+    requires groups { before % group_size ≡ 0 }
+    requires short { before + length bytes.now ≤ most_bytes }
     ensures client { OnOk result (client_of world.new ≡ with_past (client_of world.old) (with_submitted (writes_at before bytes.now) world.old.client)) }
     ensures server { OnOk result (server_of world.new ≡ server_of world.old) }
     ensures link { OnOk result (world.new.link_cut ≡ world.old.link_cut) }
@@ -109,7 +110,7 @@ fn answer_writes(alloc: Global, world: &mut World, count: usize) -> Result<Vec<M
     ensures submitted { OnOk result (messages_submitted world.new.client ≡ messages_submitted world.old.client) }
     ensures came { IfOk result (λ came. messages_delivered Server usual_limits world.new.server ≡ messages_delivered Server usual_limits world.old.server ++ came.items) }
     ensures count { IfOk result (λ came. length came.items ≡ count) }
-    ensures requests { IfOk result (λ came. AreRequests came.items) }
+    ensures requests { IfOk result (λ came. HaveHeaders came.items) }
     ensures client { OnOk result (GoesOn world.old.client world.new.client) }
     ensures server { OnOk result (GoesOn world.old.server world.new.server) }
     ensures link { OnOk result (world.new.link_cut ≡ false) }
@@ -140,7 +141,7 @@ fn call(alloc: Global, world: &mut World) -> Result<Message, NoMemory>
 
 /// Writes what these WRITEs carry to the sink.
 pub fn store<K: Sink>(sink: &mut K, writes: &[Message]) -> Result<(), Failed>
-    requires { AreRequests writes.now }
+    requires { HaveHeaders writes.now }
     ensures whole { OnOk result (Appends (K.written sink.old) (K.written sink.new) (stored_by writes.now)) }
     ensures front { OnErr result (AppendsFront (K.written sink.old) (K.written sink.new) (stored_by writes.now)) }
     ensures cause { HasCause (K.faults sink.old) (K.faults sink.new) result }

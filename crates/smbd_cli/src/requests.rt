@@ -23,7 +23,7 @@ const REPLY: u16 = 0x8000;
 /// A WRITE of these bytes, so many bytes of the copy standing before them.
 pub fn write_request(alloc: Global, id: u32, offset: u64, bytes: &[u8]) -> Result<Message, NoMemory>
     requires { length bytes.now < 2 ^ 32 }
-    ensures { IfOk result (λ m. m ≡ spec.write_request id offset bytes.now) }
+    ensures { IfOk result (λ m. m ≡ spec.write_request_bytes id offset bytes.now) }
 {
     let mut text = Vec::with_capacity(alloc, REQUEST_HEADER + bytes.len())?;
     text.extend_from_slice(&request_header(WRITE, id, offset, bytes.len() as u32))?;
@@ -33,7 +33,7 @@ pub fn write_request(alloc: Global, id: u32, offset: u64, bytes: &[u8]) -> Resul
 
 /// END: so many bytes of the copy stand before it, and no more come.
 pub fn end_request(alloc: Global, id: u32, offset: u64) -> Result<Message, NoMemory>
-    ensures { IfOk result (λ m. m ≡ spec.end_request id offset) }
+    ensures { IfOk result (λ m. m ≡ spec.end_request_bytes id offset) }
 {
     Message::copy_of(alloc, &request_header(END, id, offset, 0))
 }
@@ -74,7 +74,7 @@ pub fn carried_by(request: &Message) -> &[u8]
 }
 
 fn reply(op: u16, id: u32, count: u32) -> [u8; 12]
-    ensures { result ≡ spec.reply_to op id count }
+    ensures { result ≡ spec.reply_header op id count }
 {
     let mut out = [0; REPLY_LENGTH];
     out[0..2].copy_from_slice(&op.to_le_bytes());

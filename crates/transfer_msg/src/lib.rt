@@ -12,8 +12,8 @@ mod view;
 mod writing;
 
 pub use header::Header;
-pub use layout::HEADER_SIZE;
 pub use laws::written_messages_are_read;
+pub use layout::HEADER_SIZE;
 pub use reading::read;
 pub use smbd_base::FrameFault;
 pub use view::DataView;

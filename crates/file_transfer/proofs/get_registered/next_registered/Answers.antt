@@ -3,7 +3,7 @@ use Rattle.std.specs.Prelude.{option_map}
 use Rattle.file_messages.specs.declared.kind.Channel.TheVariants as channels
 use Rattle.file_messages.specs.declared.message.Request.{Request}
 use Rattle.file_pasts.specs.GetDue.{sent, is_between_rounds, descriptors_loaded, next_request}
-use Rattle.file_transfer.specs.ClientStands.{pages_named, after_sending}
+use Rattle.file_transfer.specs.ClientStands.{pages_named, past_after_sending}
 use Rattle.file_transfer.specs.GetStands.{may_ask, read_after, end_after}
 use Rattle.file_transfer.specs.GetPagesStand.{all_of}
 use Rattle.file_transfer.specs.GetRegisteredStands.{RegisteredGetStands}
@@ -20,7 +20,7 @@ returns-then-not-goes_on-clause-after c = λ past s.
     let between : is_between_rounds channels.V1 past ≡ true =
     between-is past c.args.rounds.now.completed c.sent.result s.rounds.completed (c.sent.ensures ∙ s.requests.asked.sent) may ∙ sym c.are_back.ensures ∙ c.if-not-are_back.false in
     let due : next_request channels.V1 past ≡ Some r = end-is channels.V1 past c.args.requests.now s.requests may between (sym (c.goes_on.ensures channels.V1 past s.requests) ∙ c.if-not-goes_on.true) in
-    subst (λ (o : Option Request). RegisteredGetStands (after_sending o past) c.end.new.self c.args.groups.now c.args.rounds.now) (sym due)
+    subst (λ (o : Option Request). RegisteredGetStands (past_after_sending o past) c.end.new.self c.args.groups.now c.args.rounds.now) (sym due)
     (record {
       requests = c.in_ok-message.ensures.after channels.V1 past s.requests due;
       groups = groups-sent channels.V1 past c.args.groups.now c.args.groups.now r s.groups refl (λ h. absurd (ended-awaits channels.V1 past r (ended-by past r refl) h));
@@ -36,7 +36,7 @@ returns-clause-after c = λ past s.
     let loaded : descriptors_loaded 16 0 (sent past) past ≡ Some (pages_named c.in-Some.loaded) =
     sym (all-loads 16 0 (sent past) past) ∙ ap all_of (sym s.rounds.loaded) ∙ sym c.in_ok-loaded.ensures ∙ ap (λ o. option_map pages_named o) c.in-Some.is in
     let due : next_request channels.V1 past ≡ Some r = read-is past c.args.requests.now c.in-Some.loaded s.requests may between (sym (c.goes_on.ensures channels.V1 past s.requests) ∙ c.if-not-goes_on.false) loaded in
-    subst (λ (o : Option Request). RegisteredGetStands (after_sending o past) c.read.new.self c.make_room.new.self
+    subst (λ (o : Option Request). RegisteredGetStands (past_after_sending o past) c.read.new.self c.make_room.new.self
     (record { jobs = c.args.rounds.now.jobs; slots = c.in_ok-slots.slots; next_loads = c.in_ok-next_loads.next_loads; completed = c.args.rounds.now.completed })) (sym due)
     (record {
       requests = c.in_ok-message-2.ensures.after past s.requests due;

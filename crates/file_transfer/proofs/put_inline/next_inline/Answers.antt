@@ -6,7 +6,7 @@ use Rattle.file_messages.specs.Runs.{inline_write}
 use Rattle.file_pasts.specs.ClientPast.{groups_in, requests_sent, total}
 use Rattle.file_pasts.specs.PutDue.{next_request}
 use Rattle.file_transfer.specs.declared.loaded_page.LoadedPage.{LoadedPage}
-use Rattle.file_transfer.specs.ClientStands.{descriptor_in, after_sending}
+use Rattle.file_transfer.specs.ClientStands.{descriptor_in, past_after_sending}
 use Rattle.file_transfer.specs.PutStands.{RequestsStand}
 use Rattle.file_transfer.specs.PutInlineStands.{InlinePutStands, without_pages}
 use Rattle.file_transfer.proofs.PutInlineLemmas.{first_write, none_wait, write-due, fits-write, stand-asked, stand-ended, nothing_left, on_ok-map, going_on}
@@ -22,7 +22,7 @@ returns-in_default-clause-after c = λ w past s.
     let empty = nothing_left c.args.groups.now.waiting.items c.pop_front.new.self.items c.in_default.ensures.items c.pop_front.ensures.rest in
     let sent = none_wait past c.args.groups.now s.groups empty in
     on_ok-map c.next_end.result
-    (λ (q : RequestsStand (without_pages w) (after_sending (next_request (without_pages w) past) past) c.next_end.new.self). record {
+    (λ (q : RequestsStand (without_pages w) (past_after_sending (next_request (without_pages w) past) past) c.next_end.new.self). record {
       requests = q;
       groups = stand-ended past c.args.groups.now _ (next_request (without_pages w) past) s.groups sent empty (sym c.in_default.ensures.items) refl refl;
     })
@@ -64,7 +64,7 @@ returns-clause-after c = λ w past s.
     let due : next_request (without_pages w) past ≡ Some r = write-due w past c.args.requests.now c.in-Some.message c.pop_front.new.self.items f s.requests going in
     let id_is : c.sent.result + 1 ≡ length (requests_sent past) + 1 = omega (arith, c.sent.ensures, c.reserve.ensures.counts.0, s.requests.asked.sent) in
     let size_is : c.len.result - 24 ≡ length f.group = omega (arith, c.len.ensures, fits.size) in
-    subst (λ (o : Option Request). InlinePutStands w (after_sending o past) c.ask.new.self (record { waiting = c.pop_front.new.self; count = c.args.groups.now.count; bytes = c.args.groups.now.bytes })) (sym due)
+    subst (λ (o : Option Request). InlinePutStands w (past_after_sending o past) c.ask.new.self (record { waiting = c.pop_front.new.self; count = c.args.groups.now.count; bytes = c.args.groups.now.bytes })) (sym due)
     (record {
       requests = c.ask.ensures (without_pages w) past r (c.reserve.ensures.same (without_pages w) past s.requests) due
           (ap (λ (ps : List LoadedPage). record { asked = record { op = 1; channel = 0; id = c.sent.result + 1; length = c.len.result - 24 }; named = map descriptor_in ps }) c.new.ensures.items

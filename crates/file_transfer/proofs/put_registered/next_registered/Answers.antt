@@ -11,7 +11,7 @@ use Rattle.file_pasts.specs.InStep.{over}
 use Rattle.file_pasts.proofs.GroupLemmas.{short_at, total-take-short}
 use Rattle.file_pasts.proofs.Naming.{all_short, few_pages}
 use Rattle.file_transfer.specs.declared.loaded_page.LoadedPage.{LoadedPage}
-use Rattle.file_transfer.specs.ClientStands.{descriptor_in, pages_named, after_sending}
+use Rattle.file_transfer.specs.ClientStands.{descriptor_in, pages_named, past_after_sending}
 use Rattle.file_transfer.specs.PutStands.{RequestsStand}
 use Rattle.file_transfer.specs.declared.put_registered.RegisteredGroups.{RegisteredGroups}
 use Rattle.file_transfer.specs.PutRegisteredStands.{RegisteredStand, RegisteredPutStands}
@@ -24,7 +24,7 @@ pub returns-in_default-clause-after : goal.returns-in_default-clause-after
 returns-in_default-clause-after c = λ w past s.
     let sent = none_wait w past c.args.groups.now s.groups (c.in_default.ensures.none refl) in
     on_ok-map c.next_end.result
-    (λ (q : RequestsStand (over w) (after_sending (next_request (over w) past) past) c.next_end.new.self). record {
+    (λ (q : RequestsStand (over w) (past_after_sending (next_request (over w) past) past) c.next_end.new.self). record {
       requests = q;
       groups = stand-ended w past c.args.requests.now c.args.groups.now (next_request (over w) past) s.requests s.groups sent refl;
     })
@@ -66,7 +66,7 @@ returns-in_default-2-clause-after c = λ w past s.
     let due : next_request (over w) past ≡ None =
     pages-due w c.page_after-first.result c.in-Some.size past c.args.requests.now (drop 1 c.args.groups.now.waiting.items) n s.requests going first_is
     ∙ ap (option_map (registered_write (c.args.requests.now.asked.sent + 1) c.args.requests.now.offset n.group)) none in
-    subst (λ (o : Option Request). RegisteredPutStands w (after_sending o past) c.args.requests.now c.args.groups.now) (sym due) s
+    subst (λ (o : Option Request). RegisteredPutStands w (past_after_sending o past) c.args.requests.now c.args.groups.now) (sym due) s
 
 pub write_over_pages-requires : goal.write_over_pages-requires
 write_over_pages-requires c =
@@ -146,7 +146,7 @@ returns-clause-after c = λ w past s.
     ∙ ap (option_map (registered_write (q.asked.sent + 1) q.offset n.group)) found in
     let kept : c.reserve-2.new.self.kept ≡ c.args.groups.now.jobs.kept + length (pages_named c.in-Some-2.pages) =
     omega (arith, c.in_ok-reserve-2.ensures.ok, count, descriptors-length c.page_after-first.result (pages_of n.group) past (pages_named c.in-Some-2.pages) found) in
-    subst (λ (o : Option Request). RegisteredPutStands w (after_sending o past) c.ask.new.self (record { jobs = c.reserve-2.new.self; slots = c.name_pages.new.slots; under_way = c.args.groups.now.under_way; count = c.args.groups.now.count; waiting = c.pop_front.new.self })) (sym due)
+    subst (λ (o : Option Request). RegisteredPutStands w (past_after_sending o past) c.ask.new.self (record { jobs = c.reserve-2.new.self; slots = c.name_pages.new.slots; under_way = c.args.groups.now.under_way; count = c.args.groups.now.count; waiting = c.pop_front.new.self })) (sym due)
     (record {
       requests = c.ask.ensures (over w) past r (c.reserve.ensures.same (over w) past s.requests) due
           (ap (λ (k : ℕ). record { asked = record { op = 1; channel = 1; id = k + 1; length = c.in-Some.size }; named = pages_named c.in-Some-2.pages }) c.sent-2.ensures

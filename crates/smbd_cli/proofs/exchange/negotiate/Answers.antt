@@ -1,6 +1,6 @@
 use Rattle.std.proofs.Common.{sym, ap, ◌∙◌}
 use Rattle.connection_core.specs.Shown.{Shown}
-use Rattle.smbd_cli.specs.Carried.{with_past, agreed_client, agreed_server}
+use Rattle.smbd_cli.specs.Carried.{with_past, usual_agreed_client, usual_agreed_server}
 use Rattle.smbd_cli.specs.Ends.{client_of, server_of}
 use Rattle.smbd_cli.proofs.Negotiating.{client_emits, server_takes, server_has_all, asked, server_emits, client_takes, client_has_all, agreed}
 use Rattle.smbd_cli.proofs.exchange.negotiate.Goals as goal
@@ -33,10 +33,10 @@ pub returns-clause-client : goal.returns-clause-client
 returns-clause-client c =
     let a = asked (client_of c.args.world.now) (server_of c.args.world.now) (client_of c.pass_frame.new.world) (server_of c.pass_frame.new.world) c.in_ok-pass_frame.field-0 c.requires.client c.requires.server c.in_ok-pass_frame.ensures.carried in
     (agreed (client_of c.pass_frame.new.world) (server_of c.pass_frame.new.world) (client_of c.pass_frame-2.new.world) (server_of c.pass_frame-2.new.world) c.in_ok-pass_frame-2.field-0 a c.in_ok-pass_frame-2.ensures.carried).client_is
-    ∙ ap (λ (x : Shown). with_past x agreed_client) (sym c.requires.client)
+    ∙ ap (λ (x : Shown). with_past x usual_agreed_client) (sym c.requires.client)
 
 pub returns-clause-server : goal.returns-clause-server
 returns-clause-server c =
     let a = asked (client_of c.args.world.now) (server_of c.args.world.now) (client_of c.pass_frame.new.world) (server_of c.pass_frame.new.world) c.in_ok-pass_frame.field-0 c.requires.client c.requires.server c.in_ok-pass_frame.ensures.carried in
     (agreed (client_of c.pass_frame.new.world) (server_of c.pass_frame.new.world) (client_of c.pass_frame-2.new.world) (server_of c.pass_frame-2.new.world) c.in_ok-pass_frame-2.field-0 a c.in_ok-pass_frame-2.ensures.carried).server_is
-    ∙ ap (λ (x : Shown). with_past x agreed_server) (sym c.requires.server)
+    ∙ ap (λ (x : Shown). with_past x usual_agreed_server) (sym c.requires.server)

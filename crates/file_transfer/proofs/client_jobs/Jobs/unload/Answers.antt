@@ -2,7 +2,7 @@ use Rattle.std.proofs.Common.{◌≡◌, ◌+◌, ◌<◌, ◌≤◌, ◌++◌, 
 use Rattle.std.proofs.lemmas.List.{take_more, map-append, append-nil}
 use Rattle.file_messages.specs.declared.job.Work.{Work}
 use Rattle.file_messages.specs.declared.job.Work.TheVariants.{Unload}
-use Rattle.file_pasts.specs.ClientPast.{token_in}
+use Rattle.file_pasts.specs.ClientPast.{token_of_descriptor}
 use Rattle.file_pasts.specs.PutDue.{unloads_of}
 use Rattle.buffer_descriptor.specs.declared.descriptor.Descriptor.{Descriptor}
 use Rattle.file_transfer.specs.declared.loaded_page.LoadedPage.{LoadedPage}
@@ -17,12 +17,12 @@ loop-page-init c = record {
 }
 
 unloads-more : (came_due : List Work) (ps : List LoadedPage) (i : ℕ) (p : LoadedPage) → i < length ps → p ≡ get_or ps i p
-    → (came_due ++ unloads_of (map descriptor_in (take i ps))) ++ Unload (token_in p.descriptor) ∷ [] ≡ came_due ++ unloads_of (map descriptor_in (take (i + 1) ps))
+    → (came_due ++ unloads_of (map descriptor_in (take i ps))) ++ Unload (token_of_descriptor p.descriptor) ∷ [] ≡ came_due ++ unloads_of (map descriptor_in (take (i + 1) ps))
 unloads-more came_due ps i p h e =
-    append_assoc came_due (unloads_of (map descriptor_in (take i ps))) (Unload (token_in p.descriptor) ∷ [])
+    append_assoc came_due (unloads_of (map descriptor_in (take i ps))) (Unload (token_of_descriptor p.descriptor) ∷ [])
     ∙ ap (λ (ws : List Work). came_due ++ ws)
-    (ap (λ (q : LoadedPage). unloads_of (map descriptor_in (take i ps)) ++ Unload (token_in q.descriptor) ∷ []) e
-    ∙ sym (map-append (λ (d : Descriptor). Unload (token_in d)) (map descriptor_in (take i ps)) ((get_or ps i p).descriptor ∷ []))
+    (ap (λ (q : LoadedPage). unloads_of (map descriptor_in (take i ps)) ++ Unload (token_of_descriptor q.descriptor) ∷ []) e
+    ∙ sym (map-append (λ (d : Descriptor). Unload (token_of_descriptor d)) (map descriptor_in (take i ps)) ((get_or ps i p).descriptor ∷ []))
     ∙ ap unloads_of (sym (map-append descriptor_in (take i ps) (get_or ps i p ∷ [])))
     ∙ ap (λ (qs : List LoadedPage). unloads_of (map descriptor_in qs)) (sym (take_more ps i p h)))
 

@@ -4,7 +4,7 @@ use Rattle.file_messages.specs.declared.message.Request.{Request}
 use Rattle.file_messages.specs.Messages.{request_bytes}
 use Rattle.file_messages.specs.Runs.{end_request}
 use Rattle.file_pasts.specs.PutDue.{next_request}
-use Rattle.file_transfer.specs.ClientStands.{after_sending}
+use Rattle.file_transfer.specs.ClientStands.{past_after_sending}
 use Rattle.file_transfer.specs.PutStands.{RequestsStand}
 use Rattle.file_transfer.proofs.PutRequestsLemmas.{end-none, end-some, failed-none, stand-none, stand-ended}
 use Rattle.file_transfer.proofs.put_requests.PutRequests.next_end.Goals.{then-has_failed-via-then-has_failed, then-has_failed-via-else-has_failed+then-not-is_over}
@@ -34,6 +34,6 @@ returns-clause-after c = λ s past stands sent.
     let r : Request = end_request (c.args.self.now.asked.sent + 1) c.args.self.now.offset in
     let due : next_request s past ≡ Some r =
     end-some s past c.args.self.now stands sent (sym (c.has_failed.ensures past stands.asked) ∙ c.if-has_failed.false) (sym (c.is_over.ensures s past stands) ∙ c.if-not-is_over.false) in
-    subst (λ (o : Option Request). RequestsStand s (after_sending o past)
+    subst (λ (o : Option Request). RequestsStand s (past_after_sending o past)
     (record { asked = c.ask_end.new.self; offset = c.args.self.now.offset; ended = c.args.self.now.ended; whole = c.args.self.now.whole; end_sent = true })) (sym due)
     (stand-ended s past c.args.self.now _ stands due (c.in_ok-message.ensures.after past stands.asked) refl refl refl refl)
