@@ -25,6 +25,22 @@ use world_core::World;
 /// The bytes of one turn: the groups of as many WRITEs as may be unanswered.
 const TURN: usize = WINDOW * GROUP;
 
+/// Two ends, and how far the log tells each of them.
+#[derive(Drop)]
+struct Ends {
+    world: World,
+    client_told: Told,
+    server_told: Told,
+}
+
+/// What was read for one turn: these bytes after so many earlier ones, and whether they are the last.
+#[derive(Clone, Copy)]
+struct Part<'a> {
+    before: u64,
+    bytes: &'a [u8],
+    ended: bool,
+}
+
 /// Copies the source to the sink, and tells the log what both ends did: a put without registered pages, of at most
 /// 16,777,216 bytes. At each turn the lines stand in the log before the sink gets its bytes.
 pub fn run_copy<S: Source, K: Sink, L: Sink>(
@@ -51,22 +67,22 @@ pub fn run_copy<S: Source, K: Sink, L: Sink>(
         CopyCommand::Copy(options) => options.limits,
         CopyCommand::Load { options, .. } => options.limits,
     };
-    let Ok(mut world) = World::open(alloc, limits, limits) else {
+    let Ok(world) = World::open(alloc, limits, limits) else {
         return Status::NoMemory;
     };
-    copy_between(alloc, &mut world, source, sink, log)
+    copy_between(alloc, world, source, sink, log)
 }
 
 /// Copies the source to the sink between the ends of a world that was just opened. The first groups are read before
 /// anything is sent.
 fn copy_between<S: Source, K: Sink, L: Sink>(
     alloc: Global,
-    world: &mut World,
+    mut world: World,
     source: &mut S,
     sink: &mut K,
     log: &mut L,
 ) -> Status
-    requires { world.old ≡ opened_world usual_limits usual_limits }
+    requires { world ≡ opened_world usual_limits usual_limits }
     ensures promise { KeepsPromise result (stream_of S.left S.faults source.old source.new)
         (stream_of K.written K.faults sink.old sink.new) (stream_of L.written L.faults log.old log.new) }
 {
@@ -90,22 +106,22 @@ fn copy_between<S: Source, K: Sink, L: Sink>(
         Ok(ended) => ended,
         Err(status) => return status,
     };
-    let Ok(()) = negotiate(world) else {
+    let Ok(()) = negotiate(&mut world) else {
         return Status::NoMemory;
+    };
+    let mut ends = Ends {
+        world,
+        client_told,
+        server_told,
     };
     let mut before = 0;
     loop {
-        match turn(
-            alloc,
-            world,
-            sink,
-            log,
-            &mut client_told,
-            &mut server_told,
+        let part = Part {
             before,
-            &bytes,
+            bytes: &bytes,
             ended,
-        ) {
+        };
+        match turn(alloc, &mut ends, sink, log, part) {
             Ok(()) => {}
             Err(status) => return status,
         }
@@ -148,45 +164,41 @@ fn read_turn<S: Source>(source: &mut S, bytes: &mut Vec<u8>, before: u64) -> Res
 /// One turn of a copy: the bytes go from the client to the server, then the log is told, and then the sink gets them.
 fn turn<K: Sink, L: Sink>(
     alloc: Global,
-    world: &mut World,
+    ends: &mut Ends,
     sink: &mut K,
     log: &mut L,
-    client_told: &mut Told,
-    server_told: &mut Told,
-    before: u64,
-    bytes: &[u8],
-    ended: bool,
+    part: Part<'_>,
 ) -> Result<(), Status>
-    requires pair { ArePair (client_of world.old) (server_of world.old) }
-    requires link { world.old.link_cut ≡ false }
-    requires caught_up { HasCaughtUp (client_of world.old) (server_of world.old) }
-    requires groups { before % group_size ≡ 0 }
-    requires short { before + length bytes.now ≤ most_bytes }
-    requires client { (client_told.old.events ≤ length world.old.client) × (client_told.old.next ≤ client_told.old.events + 1) }
-    requires server { (server_told.old.events ≤ length world.old.server) × (server_told.old.next ≤ server_told.old.events + 1) }
+    requires pair { ArePair (client_of ends.old.world) (server_of ends.old.world) }
+    requires link { ends.old.world.link_cut ≡ false }
+    requires caught_up { HasCaughtUp (client_of ends.old.world) (server_of ends.old.world) }
+    requires groups { part.before % group_size ≡ 0 }
+    requires short { part.before + length part.bytes.now ≤ most_bytes }
+    requires client { (ends.old.client_told.events ≤ length ends.old.world.client) × (ends.old.client_told.next ≤ ends.old.client_told.events + 1) }
+    requires server { (ends.old.server_told.events ≤ length ends.old.world.server) × (ends.old.server_told.next ≤ ends.old.server_told.events + 1) }
 
     // However far the copy has come: the bytes go over, are told and are stored, or the promise of the whole copy is kept.
     ensures goes_on { (from to told : Stream) → to.now ≡ K.written sink.old → to.faults ≡ K.faults sink.old
         → told.now ≡ L.written log.old → told.faults ≡ L.faults log.old
-        → IsBeforeTurn from to told (client_of world.old) (server_of world.old) client_told.old server_told.old before bytes.now ended
+        → IsBeforeTurn from to told (client_of ends.old.world) (server_of ends.old.world) ends.old.client_told ends.old.server_told part.before part.bytes.now part.ended
         → OnOk result (IsAfterTurn from (moved to (K.written sink.new) (K.faults sink.new)) (moved told (L.written log.new) (L.faults log.new))
-        (client_of world.new) (server_of world.new) client_told.new server_told.new ended (before + length bytes.now)) }
+        (client_of ends.new.world) (server_of ends.new.world) ends.new.client_told ends.new.server_told part.ended (part.before + length part.bytes.now)) }
     ensures stops { (from to told : Stream) → to.now ≡ K.written sink.old → to.faults ≡ K.faults sink.old
         → told.now ≡ L.written log.old → told.faults ≡ L.faults log.old
-        → IsBeforeTurn from to told (client_of world.old) (server_of world.old) client_told.old server_told.old before bytes.now ended
+        → IsBeforeTurn from to told (client_of ends.old.world) (server_of ends.old.world) ends.old.client_told ends.old.server_told part.before part.bytes.now part.ended
         → IfErr result (λ status. KeepsPromise status from (moved to (K.written sink.new) (K.faults sink.new)) (moved told (L.written log.new) (L.faults log.new))) }
-    ensures link { OnOk result (world.new.link_cut ≡ false) }
+    ensures link { OnOk result (ends.new.world.link_cut ≡ false) }
 {
-    let Ok(came) = put_groups(alloc, world, before, bytes, ended) else {
+    let Ok(came) = put_groups(alloc, &mut ends.world, part.before, part.bytes, part.ended) else {
         return Err(Status::NoMemory);
     };
     match tell(
         alloc,
         log,
-        client_told,
-        server_told,
-        world.history(EndId::Client),
-        world.history(EndId::Server),
+        &mut ends.client_told,
+        &mut ends.server_told,
+        ends.world.history(EndId::Client),
+        ends.world.history(EndId::Server),
     ) {
         Ok(()) => {}
         Err(status) => return Err(status),

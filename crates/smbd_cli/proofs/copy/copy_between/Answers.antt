@@ -11,7 +11,7 @@ use Rattle.smbd_cli.proofs.copy.copy_between.Goals as goal
 
 pub returns-in-Err : goal.returns-in-Err
 returns-in-Err g c = record {
-  promise = stops_opening (client_of c.args.world.now) (server_of c.args.world.now) c.history.result.now c.history-2.result.now c.nothing-client_told.result c.nothing-server_told.result
+  promise = stops_opening (client_of c.args.world) (server_of c.args.world) c.history.result.now c.history-2.result.now c.nothing-client_told.result c.nothing-server_told.result
       (g.S.Source.left c.args.source.now) (g.K.Sink.written c.args.sink.now) (g.L.Sink.written c.args.log.now) (g.L.Sink.written c.tell.new.log) (g.S.Source.faults c.args.source.now) (g.K.Sink.faults c.args.sink.now)
       (g.L.Sink.faults c.args.log.now) (g.L.Sink.faults c.tell.new.log) c.in-Err.status (ap client_of c.requires) (ap server_of c.requires) c.history.ensures.past c.history-2.ensures.past
       c.nothing-client_told.ensures c.nothing-server_told.ensures c.in-Err.ensures.front c.in-Err.ensures.cause;
@@ -19,7 +19,7 @@ returns-in-Err g c = record {
 
 pub returns-in_default : goal.returns-in_default
 returns-in_default g c =
-    let b = between_opening (client_of c.args.world.now) (server_of c.args.world.now) c.history.result.now c.history-2.result.now c.nothing-client_told.result c.nothing-server_told.result
+    let b = between_opening (client_of c.args.world) (server_of c.args.world) c.history.result.now c.history-2.result.now c.nothing-client_told.result c.nothing-server_told.result
     c.tell.new.client_told c.tell.new.server_told (g.S.Source.left c.args.source.now) (g.K.Sink.written c.args.sink.now) (g.L.Sink.written c.args.log.now) (g.L.Sink.written c.tell.new.log)
     (g.S.Source.faults c.args.source.now) (g.K.Sink.faults c.args.sink.now) (g.L.Sink.faults c.args.log.now) (g.L.Sink.faults c.tell.new.log) (ap client_of c.requires) (ap server_of c.requires) c.history.ensures.past c.history-2.ensures.past
     c.nothing-client_told.ensures c.nothing-server_told.ensures c.in-Ok.ensures.logged c.in-Ok.ensures.client c.in-Ok.ensures.server c.tell.ensures.later in
@@ -30,7 +30,7 @@ returns-in_default g c =
 
 pub returns-in-Err-read_turn : goal.returns-in-Err-read_turn
 returns-in-Err-read_turn g c =
-    let b = between_opening (client_of c.args.world.now) (server_of c.args.world.now) c.history.result.now c.history-2.result.now c.nothing-client_told.result c.nothing-server_told.result
+    let b = between_opening (client_of c.args.world) (server_of c.args.world) c.history.result.now c.history-2.result.now c.nothing-client_told.result c.nothing-server_told.result
     c.tell.new.client_told c.tell.new.server_told (g.S.Source.left c.args.source.now) (g.K.Sink.written c.args.sink.now) (g.L.Sink.written c.args.log.now) (g.L.Sink.written c.tell.new.log)
     (g.S.Source.faults c.args.source.now) (g.K.Sink.faults c.args.sink.now) (g.L.Sink.faults c.args.log.now) (g.L.Sink.faults c.tell.new.log) (ap client_of c.requires) (ap server_of c.requires) c.history.ensures.past c.history-2.ensures.past
     c.nothing-client_told.ensures c.nothing-server_told.ensures c.in-Ok.ensures.logged c.in-Ok.ensures.client c.in-Ok.ensures.server c.tell.ensures.later in
@@ -41,7 +41,7 @@ returns-in-Err-read_turn g c =
 
 pub returns-in_default-negotiate : goal.returns-in_default-negotiate
 returns-in_default-negotiate g c =
-    let b = between_opening (client_of c.args.world.now) (server_of c.args.world.now) c.history.result.now c.history-2.result.now c.nothing-client_told.result c.nothing-server_told.result
+    let b = between_opening (client_of c.args.world) (server_of c.args.world) c.history.result.now c.history-2.result.now c.nothing-client_told.result c.nothing-server_told.result
     c.tell.new.client_told c.tell.new.server_told (g.S.Source.left c.args.source.now) (g.K.Sink.written c.args.sink.now) (g.L.Sink.written c.args.log.now) (g.L.Sink.written c.tell.new.log)
     (g.S.Source.faults c.args.source.now) (g.K.Sink.faults c.args.sink.now) (g.L.Sink.faults c.args.log.now) (g.L.Sink.faults c.tell.new.log) (ap client_of c.requires) (ap server_of c.requires) c.history.ensures.past c.history-2.ensures.past
     c.nothing-client_told.ensures c.nothing-server_told.ensures c.in-Ok.ensures.logged c.in-Ok.ensures.client c.in-Ok.ensures.server c.tell.ensures.later in
@@ -52,15 +52,15 @@ returns-in_default-negotiate g c =
 
 pub loop-status-init : goal.loop-status-init
 loop-status-init g c =
-    let b = between_opening (client_of c.args.world.now) (server_of c.args.world.now) c.history.result.now c.history-2.result.now c.nothing-client_told.result c.nothing-server_told.result
+    let b = between_opening (client_of c.args.world) (server_of c.args.world) c.history.result.now c.history-2.result.now c.nothing-client_told.result c.nothing-server_told.result
     c.tell.new.client_told c.tell.new.server_told (g.S.Source.left c.args.source.now) (g.K.Sink.written c.args.sink.now) (g.L.Sink.written c.args.log.now) (g.L.Sink.written c.tell.new.log)
     (g.S.Source.faults c.args.source.now) (g.K.Sink.faults c.args.sink.now) (g.L.Sink.faults c.args.log.now) (g.L.Sink.faults c.tell.new.log) (ap client_of c.requires) (ap server_of c.requires) c.history.ensures.past c.history-2.ensures.past
     c.nothing-client_told.ensures c.nothing-server_told.ensures c.in-Ok.ensures.logged c.in-Ok.ensures.client c.in-Ok.ensures.server c.tell.ensures.later in
     record {
       so_far = next_turn (same (g.S.Source.left c.args.source.now) (g.S.Source.faults c.args.source.now)) (same (g.K.Sink.written c.args.sink.now) (g.K.Sink.faults c.args.sink.now)) (moved (same (g.L.Sink.written c.args.log.now) (g.L.Sink.faults c.args.log.now)) (g.L.Sink.written c.tell.new.log) (g.L.Sink.faults c.tell.new.log)) opening opening (client_of c.negotiate.new.world) (server_of c.negotiate.new.world) c.tell.new.client_told c.tell.new.server_told [] c.read_turn.new.bytes.items c.in-Ok-read_turn.ended
           (g.S.Source.left c.read_turn.new.source) (g.S.Source.faults c.read_turn.new.source) b
-          (went_on (client_of c.args.world.now) (client_of c.negotiate.new.world) c.in-Ok-negotiate.ensures.client) (went_on_server (server_of c.args.world.now) (server_of c.negotiate.new.world) c.in-Ok-negotiate.ensures.server)
-          (agreed_put (client_of c.args.world.now) (server_of c.args.world.now) (client_of c.negotiate.new.world) (server_of c.negotiate.new.world) (ap client_of c.requires) (ap server_of c.requires) c.in-Ok-negotiate.ensures.client c.in-Ok-negotiate.ensures.server)
+          (went_on (client_of c.args.world) (client_of c.negotiate.new.world) c.in-Ok-negotiate.ensures.client) (went_on_server (server_of c.args.world) (server_of c.negotiate.new.world) c.in-Ok-negotiate.ensures.server)
+          (agreed_put (client_of c.args.world) (server_of c.args.world) (client_of c.negotiate.new.world) (server_of c.negotiate.new.world) (ap client_of c.requires) (ap server_of c.requires) c.in-Ok-negotiate.ensures.client c.in-Ok-negotiate.ensures.server)
           c.read_turn.ensures.read c.read_turn.ensures.later c.in-Ok-read_turn.ensures.short c.in-Ok-read_turn.ensures.last c.in-Ok-read_turn.ensures.whole;
       link = c.in-Ok-negotiate.ensures.link;
       room = c.read_turn.ensures.room;
@@ -84,36 +84,36 @@ turn-requires-clause-link g c = c.loop-status.invariant.link
 pub turn-requires-clause-client : goal.turn-requires-clause-client
 turn-requires-clause-client g c =
     let b = c.loop-status.invariant.so_far in
-    told_within b.told_client c.loop-status.world.client c.loop-status.client_told b.so_far.client_is b.client_more
+    told_within b.told_client c.loop-status.ends.world.client c.loop-status.ends.client_told b.so_far.client_is b.client_more
 
 pub turn-requires-clause-server : goal.turn-requires-clause-server
 turn-requires-clause-server g c =
     let b = c.loop-status.invariant.so_far in
-    told_within b.told_server c.loop-status.world.server c.loop-status.server_told b.so_far.server_is b.server_more
+    told_within b.told_server c.loop-status.ends.world.server c.loop-status.ends.server_told b.so_far.server_is b.server_more
 
 pub returns-in-Err-turn : goal.returns-in-Err-turn
 returns-in-Err-turn g c =
-    let b = subst (λ (bs : List ℕ). IsBeforeTurn (stream_of g.S.Source.left g.S.Source.faults c.args.source.now c.loop-status.source) (stream_of g.K.Sink.written g.K.Sink.faults c.args.sink.now c.loop-status.sink) (stream_of g.L.Sink.written g.L.Sink.faults c.args.log.now c.loop-status.log) (client_of c.loop-status.world) (server_of c.loop-status.world) c.loop-status.client_told c.loop-status.server_told c.loop-status.before bs c.loop-status.ended)
+    let b = subst (λ (bs : List ℕ). IsBeforeTurn (stream_of g.S.Source.left g.S.Source.faults c.args.source.now c.loop-status.source) (stream_of g.K.Sink.written g.K.Sink.faults c.args.sink.now c.loop-status.sink) (stream_of g.L.Sink.written g.L.Sink.faults c.args.log.now c.loop-status.log) (client_of c.loop-status.ends.world) (server_of c.loop-status.ends.world) c.loop-status.ends.client_told c.loop-status.ends.server_told c.loop-status.before bs c.loop-status.ended)
     (sym c.deref.ensures.value) c.loop-status.invariant.so_far in
     record { promise = c.in-Err-turn.ensures.stops (stream_of g.S.Source.left g.S.Source.faults c.args.source.now c.loop-status.source) (stream_of g.K.Sink.written g.K.Sink.faults c.args.sink.now c.loop-status.sink) (stream_of g.L.Sink.written g.L.Sink.faults c.args.log.now c.loop-status.log) refl refl refl refl b }
 
 pub returns-then-ended : goal.returns-then-ended
 returns-then-ended g c =
-    let b = subst (λ (bs : List ℕ). IsBeforeTurn (stream_of g.S.Source.left g.S.Source.faults c.args.source.now c.loop-status.source) (stream_of g.K.Sink.written g.K.Sink.faults c.args.sink.now c.loop-status.sink) (stream_of g.L.Sink.written g.L.Sink.faults c.args.log.now c.loop-status.log) (client_of c.loop-status.world) (server_of c.loop-status.world) c.loop-status.client_told c.loop-status.server_told c.loop-status.before bs c.loop-status.ended)
+    let b = subst (λ (bs : List ℕ). IsBeforeTurn (stream_of g.S.Source.left g.S.Source.faults c.args.source.now c.loop-status.source) (stream_of g.K.Sink.written g.K.Sink.faults c.args.sink.now c.loop-status.sink) (stream_of g.L.Sink.written g.L.Sink.faults c.args.log.now c.loop-status.log) (client_of c.loop-status.ends.world) (server_of c.loop-status.ends.world) c.loop-status.ends.client_told c.loop-status.ends.server_told c.loop-status.before bs c.loop-status.ended)
     (sym c.deref.ensures.value) c.loop-status.invariant.so_far in
     let a = c.in-Ok-turn.ensures.goes_on (stream_of g.S.Source.left g.S.Source.faults c.args.source.now c.loop-status.source) (stream_of g.K.Sink.written g.K.Sink.faults c.args.sink.now c.loop-status.sink) (stream_of g.L.Sink.written g.L.Sink.faults c.args.log.now c.loop-status.log) refl refl refl refl b in
-    record { promise = turned_done (stream_of g.S.Source.left g.S.Source.faults c.args.source.now c.loop-status.source) (stream_of g.K.Sink.written g.K.Sink.faults c.args.sink.now c.turn.new.sink) (stream_of g.L.Sink.written g.L.Sink.faults c.args.log.now c.turn.new.log) (client_of c.turn.new.world) (server_of c.turn.new.world) c.turn.new.client_told c.turn.new.server_told c.loop-status.ended (c.loop-status.before + length c.deref.result.now) a c.if-ended.true }
+    record { promise = turned_done (stream_of g.S.Source.left g.S.Source.faults c.args.source.now c.loop-status.source) (stream_of g.K.Sink.written g.K.Sink.faults c.args.sink.now c.turn.new.sink) (stream_of g.L.Sink.written g.L.Sink.faults c.args.log.now c.turn.new.log) (client_of c.turn.new.ends.world) (server_of c.turn.new.ends.world) c.turn.new.ends.client_told c.turn.new.ends.server_told c.loop-status.ended (c.loop-status.before + length c.deref.result.now) a c.if-ended.true }
 
 pub loop-status-preserved : goal.loop-status-preserved
 loop-status-preserved g c =
-    let b = subst (λ (bs : List ℕ). IsBeforeTurn (stream_of g.S.Source.left g.S.Source.faults c.args.source.now c.loop-status.source) (stream_of g.K.Sink.written g.K.Sink.faults c.args.sink.now c.loop-status.sink) (stream_of g.L.Sink.written g.L.Sink.faults c.args.log.now c.loop-status.log) (client_of c.loop-status.world) (server_of c.loop-status.world) c.loop-status.client_told c.loop-status.server_told c.loop-status.before bs c.loop-status.ended)
+    let b = subst (λ (bs : List ℕ). IsBeforeTurn (stream_of g.S.Source.left g.S.Source.faults c.args.source.now c.loop-status.source) (stream_of g.K.Sink.written g.K.Sink.faults c.args.sink.now c.loop-status.sink) (stream_of g.L.Sink.written g.L.Sink.faults c.args.log.now c.loop-status.log) (client_of c.loop-status.ends.world) (server_of c.loop-status.ends.world) c.loop-status.ends.client_told c.loop-status.ends.server_told c.loop-status.before bs c.loop-status.ended)
     (sym c.deref.ensures.value) c.loop-status.invariant.so_far in
     let a = c.in-Ok-turn.ensures.goes_on (stream_of g.S.Source.left g.S.Source.faults c.args.source.now c.loop-status.source) (stream_of g.K.Sink.written g.K.Sink.faults c.args.sink.now c.loop-status.sink) (stream_of g.L.Sink.written g.L.Sink.faults c.args.log.now c.loop-status.log) refl refl refl refl b in
     let same_all : c.loop-status.before + length c.deref.result.now ≡ c.loop-status.before + c.len.result =
     omega (arith, c.len.ensures, c.loop-status.bytes.ok.0, ap length c.deref.ensures.value) in
-    let a' = subst (λ (n : ℕ). IsAfterTurn (stream_of g.S.Source.left g.S.Source.faults c.args.source.now c.loop-status.source) (stream_of g.K.Sink.written g.K.Sink.faults c.args.sink.now c.turn.new.sink) (stream_of g.L.Sink.written g.L.Sink.faults c.args.log.now c.turn.new.log) (client_of c.turn.new.world) (server_of c.turn.new.world) c.turn.new.client_told c.turn.new.server_told c.loop-status.ended n) same_all a in
+    let a' = subst (λ (n : ℕ). IsAfterTurn (stream_of g.S.Source.left g.S.Source.faults c.args.source.now c.loop-status.source) (stream_of g.K.Sink.written g.K.Sink.faults c.args.sink.now c.turn.new.sink) (stream_of g.L.Sink.written g.L.Sink.faults c.args.log.now c.turn.new.log) (client_of c.turn.new.ends.world) (server_of c.turn.new.ends.world) c.turn.new.ends.client_told c.turn.new.ends.server_told c.loop-status.ended n) same_all a in
     record {
-      so_far = turned (stream_of g.S.Source.left g.S.Source.faults c.args.source.now c.loop-status.source) (stream_of g.K.Sink.written g.K.Sink.faults c.args.sink.now c.turn.new.sink) (stream_of g.L.Sink.written g.L.Sink.faults c.args.log.now c.turn.new.log) (client_of c.turn.new.world) (server_of c.turn.new.world) c.turn.new.client_told c.turn.new.server_told c.loop-status.ended (c.loop-status.before + c.len.result)
+      so_far = turned (stream_of g.S.Source.left g.S.Source.faults c.args.source.now c.loop-status.source) (stream_of g.K.Sink.written g.K.Sink.faults c.args.sink.now c.turn.new.sink) (stream_of g.L.Sink.written g.L.Sink.faults c.args.log.now c.turn.new.log) (client_of c.turn.new.ends.world) (server_of c.turn.new.ends.world) c.turn.new.ends.client_told c.turn.new.ends.server_told c.loop-status.ended (c.loop-status.before + c.len.result)
           c.read_turn-in-loop-status.new.bytes.items c.in-Ok-read_turn-2.end (g.S.Source.left c.read_turn-in-loop-status.new.source) (g.S.Source.faults c.read_turn-in-loop-status.new.source) a' c.if-ended.false
           c.read_turn-in-loop-status.ensures.read c.read_turn-in-loop-status.ensures.later c.in-Ok-read_turn-2.ensures.short c.in-Ok-read_turn-2.ensures.last c.in-Ok-read_turn-2.ensures.whole;
       link = c.in-Ok-turn.ensures.link;
@@ -122,14 +122,14 @@ loop-status-preserved g c =
 
 pub returns-in-Err-read_turn-2 : goal.returns-in-Err-read_turn-2
 returns-in-Err-read_turn-2 g c =
-    let b = subst (λ (bs : List ℕ). IsBeforeTurn (stream_of g.S.Source.left g.S.Source.faults c.args.source.now c.loop-status.source) (stream_of g.K.Sink.written g.K.Sink.faults c.args.sink.now c.loop-status.sink) (stream_of g.L.Sink.written g.L.Sink.faults c.args.log.now c.loop-status.log) (client_of c.loop-status.world) (server_of c.loop-status.world) c.loop-status.client_told c.loop-status.server_told c.loop-status.before bs c.loop-status.ended)
+    let b = subst (λ (bs : List ℕ). IsBeforeTurn (stream_of g.S.Source.left g.S.Source.faults c.args.source.now c.loop-status.source) (stream_of g.K.Sink.written g.K.Sink.faults c.args.sink.now c.loop-status.sink) (stream_of g.L.Sink.written g.L.Sink.faults c.args.log.now c.loop-status.log) (client_of c.loop-status.ends.world) (server_of c.loop-status.ends.world) c.loop-status.ends.client_told c.loop-status.ends.server_told c.loop-status.before bs c.loop-status.ended)
     (sym c.deref.ensures.value) c.loop-status.invariant.so_far in
     let a = c.in-Ok-turn.ensures.goes_on (stream_of g.S.Source.left g.S.Source.faults c.args.source.now c.loop-status.source) (stream_of g.K.Sink.written g.K.Sink.faults c.args.sink.now c.loop-status.sink) (stream_of g.L.Sink.written g.L.Sink.faults c.args.log.now c.loop-status.log) refl refl refl refl b in
     let same_all : c.loop-status.before + length c.deref.result.now ≡ c.loop-status.before + c.len.result =
     omega (arith, c.len.ensures, c.loop-status.bytes.ok.0, ap length c.deref.ensures.value) in
-    let a' = subst (λ (n : ℕ). IsAfterTurn (stream_of g.S.Source.left g.S.Source.faults c.args.source.now c.loop-status.source) (stream_of g.K.Sink.written g.K.Sink.faults c.args.sink.now c.turn.new.sink) (stream_of g.L.Sink.written g.L.Sink.faults c.args.log.now c.turn.new.log) (client_of c.turn.new.world) (server_of c.turn.new.world) c.turn.new.client_told c.turn.new.server_told c.loop-status.ended n) same_all a in
+    let a' = subst (λ (n : ℕ). IsAfterTurn (stream_of g.S.Source.left g.S.Source.faults c.args.source.now c.loop-status.source) (stream_of g.K.Sink.written g.K.Sink.faults c.args.sink.now c.turn.new.sink) (stream_of g.L.Sink.written g.L.Sink.faults c.args.log.now c.turn.new.log) (client_of c.turn.new.ends.world) (server_of c.turn.new.ends.world) c.turn.new.ends.client_told c.turn.new.ends.server_told c.loop-status.ended n) same_all a in
     record {
-      promise = turned_reading (stream_of g.S.Source.left g.S.Source.faults c.args.source.now c.loop-status.source) (stream_of g.K.Sink.written g.K.Sink.faults c.args.sink.now c.turn.new.sink) (stream_of g.L.Sink.written g.L.Sink.faults c.args.log.now c.turn.new.log) (client_of c.turn.new.world) (server_of c.turn.new.world) c.turn.new.client_told c.turn.new.server_told c.loop-status.ended (c.loop-status.before + c.len.result)
+      promise = turned_reading (stream_of g.S.Source.left g.S.Source.faults c.args.source.now c.loop-status.source) (stream_of g.K.Sink.written g.K.Sink.faults c.args.sink.now c.turn.new.sink) (stream_of g.L.Sink.written g.L.Sink.faults c.args.log.now c.turn.new.log) (client_of c.turn.new.ends.world) (server_of c.turn.new.ends.world) c.turn.new.ends.client_told c.turn.new.ends.server_told c.loop-status.ended (c.loop-status.before + c.len.result)
           c.read_turn-in-loop-status.new.bytes.items (g.S.Source.left c.read_turn-in-loop-status.new.source) (g.S.Source.faults c.read_turn-in-loop-status.new.source) c.in-Err-read_turn-2.status a' c.if-ended.false
           c.read_turn-in-loop-status.ensures.read c.in-Err-read_turn-2.ensures.stops;
     }
