@@ -2,7 +2,7 @@
 
 ghost use Rattle.std.specs.Prelude.{◌<◌, ◌≤◌, length};
 
-use reassembly::{Broken, Gather, GatherFault, gathered_pieces_split, split_pieces_are_gathered};
+use reassembly::{Broken, Gather, GatherFault};
 use smbd_base::Message;
 use std::alloc::Global;
 use std::process::Abort;
@@ -101,12 +101,6 @@ fn follow(rt: &impl Abort, alloc: Global, name: &str, max: u32, steps: &[Step<'_
         assert!(rt; was_told(misfit, &answer), "{name}");
         assert_eq!(rt; gather.left(), step.left, "{name}");
     }
-}
-
-#[test]
-fn laws_hold(_rt: HostRuntime) {
-    gathered_pieces_split();
-    split_pieces_are_gathered();
 }
 
 #[test]
