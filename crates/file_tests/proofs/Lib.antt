@@ -1,2 +1,3 @@
+mod GettingLemmas
 mod PuttingLemmas
 mod ServingLemmas

@@ -1,4 +1,5 @@
--- A client of a put whose jobs are done as soon as they are given stands by some past after each call.
+-- A client of a put whose jobs are done as soon as they are given stands by some past after each call. The first lemmas of
+-- each part serve a get as well.
 use Rattle.std.proofs.Common.{◌≡◌, ℕ, ◌+◌, ◌≤◌, ◌==◌, Bool, true, false, cond, Option, Some, None, List, [], ◌∷◌, ◌++◌, length, length-append, refl, sym, ap, ◌∙◌, subst, arith}
 use Rattle.std.specs.Prelude.{slice_get}
 use Rattle.std.proofs.lemmas.Bool.Decides.{nat_tests}
@@ -12,24 +13,24 @@ use Rattle.file_pasts.specs.ClientPast.{ClientEvent, Gave, Completed, requests_s
 use Rattle.file_pasts.specs.PutDue.{Setup, next_job, next_request, jobs_due, numbered}
 use Rattle.file_transfer.specs.declared.put_client.PutClient.{PutClient}
 use Rattle.file_transfer.specs.ClientJobs.{after_giving}
-use Rattle.file_transfer.specs.PutStands.{after_sending}
+use Rattle.file_transfer.specs.ClientStands.{past_after_sending}
 use Rattle.file_transfer.specs.PutClientStands.{CameBy}
 use Rattle.file_tests.specs.Putting.{IsPutting}
 
 -- ---- a request is given
 
-more_sent : (o : Option Request) (past : List ClientEvent) → length (requests_sent (after_sending o past)) ≤ length (requests_sent past) + 1
+pub more_sent : (o : Option Request) (past : List ClientEvent) → length (requests_sent (past_after_sending o past)) ≤ length (requests_sent past) + 1
 more_sent None past = omega arith
 more_sent (Some r) past = omega (arith, length-append (requests_sent past) (r ∷ []))
 
-still_open : (o : Option Request) (past : List ClientEvent) → open_jobs (after_sending o past) ≡ open_jobs past
+pub still_open : (o : Option Request) (past : List ClientEvent) → open_jobs (past_after_sending o past) ≡ open_jobs past
 still_open None past = refl
 still_open (Some r) past = refl
 
-pub putting-sent : (m n : PutClient) (asked : ℕ) (p : IsPutting m asked) → CameBy p.setup (after_sending (next_request p.setup p.past) p.past) n → IsPutting n (asked + 1)
+pub putting-sent : (m n : PutClient) (asked : ℕ) (p : IsPutting m asked) → CameBy p.setup (past_after_sending (next_request p.setup p.past) p.past) n → IsPutting n (asked + 1)
 putting-sent m n asked p came = record {
   setup = p.setup;
-  past = after_sending (next_request p.setup p.past) p.past;
+  past = past_after_sending (next_request p.setup p.past) p.past;
   came = came;
   idle = still_open (next_request p.setup p.past) p.past ∙ p.idle;
   few = (let f = p.few in omega (arith, f, more_sent (next_request p.setup p.past) p.past));
@@ -37,7 +38,7 @@ putting-sent m n asked p came = record {
 
 -- ---- a job is given
 
-number_is : (t : Bool) (channel : Channel) (n : ℕ) (o : Option Work) (job : Job)
+pub number_is : (t : Bool) (channel : Channel) (n : ℕ) (o : Option Work) (job : Job)
     → Some job ≡ cond t None (elim channel [ channels.None ↦ None | channels.V1 ↦ numbered n o ]) → job.number ≡ n
 number_is true channel n o job e = absurd (let b : ⊥ = cc in b)
 number_is false channels.None n o job e = absurd (let b : ⊥ = cc in b)
@@ -50,11 +51,11 @@ in_turn s past job e = number_is (has_failed past) s.channel (length (jobs_given
 same_number : (n m : ℕ) → n ≡ m → (m == n) ≡ true
 same_number n m e = grind (arith, nat_tests)
 
-only_job : (n m : ℕ) (jobs : List Job) (work : Work) → jobs ≡ [] → n ≡ m → job_at n (jobs ++ (record { number = m; work = work }) ∷ []) ≡ Some work
+pub only_job : (n m : ℕ) (jobs : List Job) (work : Work) → jobs ≡ [] → n ≡ m → job_at n (jobs ++ (record { number = m; work = work }) ∷ []) ≡ Some work
 only_job n m jobs work none e =
     ap (λ (js : List Job). job_at n (js ++ (record { number = m; work = work }) ∷ [])) none ∙ ap (λ (t : Bool). cond t (Some work) None) (same_number n m e)
 
-none_left : (n m : ℕ) (jobs : List Job) (work : Work) → jobs ≡ [] → n ≡ m → without_job n (jobs ++ (record { number = m; work = work }) ∷ []) ≡ []
+pub none_left : (n m : ℕ) (jobs : List Job) (work : Work) → jobs ≡ [] → n ≡ m → without_job n (jobs ++ (record { number = m; work = work }) ∷ []) ≡ []
 none_left n m jobs work none e =
     ap (λ (js : List Job). without_job n (js ++ (record { number = m; work = work }) ∷ [])) none
     ∙ ap (λ (t : Bool). cond t [] ((record { number = m; work = work }) ∷ [])) (same_number n m e)

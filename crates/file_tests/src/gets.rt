@@ -1,6 +1,9 @@
-//! Servers of gets: each READ is answered by the bytes that were handed in for it, on both channels.
+//! Gets on both channels: whole ones, by a client and a server, and READs that are answered by the bytes that were handed in for
+//! each.
 
+use crate::getting::Getting;
 use crate::pages::Pages;
+use crate::puts::bytes_of;
 use crate::serving::Serving;
 use buffer_descriptor::{Descriptor, Descriptors};
 use file_messages::{
@@ -16,6 +19,56 @@ const MEMORY: &str = "memory";
 const LENGTH: u32 = 65_536;
 
 const ALPHABET: &[u8] = b"abcdefghijklmnopqrstuvwxyz";
+
+#[test]
+fn gets_come(rt: HostRuntime) {
+    for bytes in [0, 3, 65_536, 100_000, 131_072] {
+        for channel in [Channel::None, Channel::V1] {
+            come(&rt, rt.alloc(), channel, bytes);
+        }
+    }
+}
+
+/// A get of so many bytes by client and server, with a table in place of pages between them.
+fn come(rt: &impl Abort, alloc: Global, channel: Channel, bytes: usize) {
+    let source = bytes_of(rt, alloc, bytes);
+    let mut rest = source.as_slice();
+    let mut client = Getting::open(rt, alloc, channel);
+    let mut server = Serving::open(rt, alloc, CopyKind::Get);
+    let mut pages = Pages::new(rt, alloc, 16);
+    let mut came = Vec::new(alloc);
+    for _turn in 0..5 {
+        work(rt, &mut client, &mut pages);
+        if let Some(request) = client.next_message(rt) {
+            assert_eq!(rt; server.request(&request), Ok(()));
+        }
+        if let Some(most) = server.wants_source() {
+            let (part, later) = rest.split_at(rest.len().min(most as usize));
+            server.source(rt, part);
+            rest = later;
+        }
+        for _job in 0..17 {
+            let _ = server.work(rt, &mut pages);
+        }
+        if let Some(reply) = server.next_message(rt) {
+            assert_eq!(rt; client.reply(&reply), Ok(()));
+        }
+        work(rt, &mut client, &mut pages);
+        if let Some(group) = client.received() {
+            came.extend_from_slice(group.bytes()).expect(rt, MEMORY);
+        }
+        assert!(rt; client.received().is_none());
+    }
+    assert!(rt; client.finished());
+    assert!(rt; came == source);
+}
+
+/// The client's jobs are done.
+fn work(rt: &impl Abort, client: &mut Getting, pages: &mut Pages) {
+    for _job in 0..33 {
+        let _ = client.work(rt, pages);
+    }
+}
 
 #[test]
 fn reads_are_answered(rt: HostRuntime) {

@@ -4,6 +4,8 @@
 #[cfg(test)]
 mod gets;
 #[cfg(test)]
+mod getting;
+#[cfg(test)]
 mod messages;
 #[cfg(test)]
 mod pages;

@@ -83,7 +83,7 @@ fn arrive(rt: &impl Abort, alloc: Global, case: &PutCase) {
 }
 
 /// So many bytes, no two pages of which are the same.
-fn bytes_of(rt: &impl Abort, alloc: Global, count: usize) -> Vec<u8> {
+pub fn bytes_of(rt: &impl Abort, alloc: Global, count: usize) -> Vec<u8> {
     let mut bytes = Vec::with_capacity(alloc, count).expect(rt, MEMORY);
     for place in 0..count {
         bytes

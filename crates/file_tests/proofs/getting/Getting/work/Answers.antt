@@ -1,0 +1,14 @@
+use Rattle.std.proofs.Common.{◌∷◌}
+use Rattle.file_pasts.specs.ClientPast.{Gave}
+use Rattle.file_tests.proofs.GettingLemmas.{came_given, answers_it, getting-worked}
+use Rattle.file_tests.proofs.getting.Getting.work.Goals as goal
+
+pub invariant_of-self-2 : goal.invariant_of-self-2
+invariant_of-self-2 g c =
+    let p = c.self.invariant in
+    let job = c.in-Some.job in
+    let result = c.do_for_client-result.result in
+    let due = c.in-Some.ensures.due p.channel p.past p.came in
+    let given = came_given p.channel p.past job c.next_job.new.self due (c.next_job.ensures.after p.channel p.past p.came) in
+    getting-worked c.self.inside.machine c.completed.new.self c.self.inside.asked p job result due
+    (c.completed.ensures p.channel (Gave job.work ∷ p.past) given (answers_it p.channel p.past job result p.idle due c.do_for_client-result.ensures))
