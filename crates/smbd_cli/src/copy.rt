@@ -70,31 +70,36 @@ pub fn run_copy<S: Source, K: Sink, L: Sink>(
     let Ok(world) = World::open(alloc, limits, limits) else {
         return Status::NoMemory;
     };
-    copy_between(alloc, world, source, sink, log)
+    let mut ends = Ends {
+        world,
+        client_told: Told::nothing(),
+        server_told: Told::nothing(),
+    };
+    copy_between(alloc, &mut ends, source, sink, log)
 }
 
 /// Copies the source to the sink between the ends of a world that was just opened. The first groups are read before
 /// anything is sent.
 fn copy_between<S: Source, K: Sink, L: Sink>(
     alloc: Global,
-    mut world: World,
+    ends: &mut Ends,
     source: &mut S,
     sink: &mut K,
     log: &mut L,
 ) -> Status
-    requires { world ≡ opened_world usual_limits usual_limits }
+    requires world { ends.old.world ≡ opened_world usual_limits usual_limits }
+    requires client { ends.old.client_told ≡ record { events = 0; next = 1 } }
+    requires server { ends.old.server_told ≡ record { events = 0; next = 1 } }
     ensures promise { KeepsPromise result (stream_of S.left S.faults source.old source.new)
         (stream_of K.written K.faults sink.old sink.new) (stream_of L.written L.faults log.old log.new) }
 {
-    let mut client_told = Told::nothing();
-    let mut server_told = Told::nothing();
     match tell(
         alloc,
         log,
-        &mut client_told,
-        &mut server_told,
-        world.history(EndId::Client),
-        world.history(EndId::Server),
+        &mut ends.client_told,
+        &mut ends.server_told,
+        ends.world.history(EndId::Client),
+        ends.world.history(EndId::Server),
     ) {
         Ok(()) => {}
         Err(status) => return status,
@@ -106,13 +111,8 @@ fn copy_between<S: Source, K: Sink, L: Sink>(
         Ok(ended) => ended,
         Err(status) => return status,
     };
-    let Ok(()) = negotiate(&mut world) else {
+    let Ok(()) = negotiate(&mut ends.world) else {
         return Status::NoMemory;
-    };
-    let mut ends = Ends {
-        world,
-        client_told,
-        server_told,
     };
     let mut before = 0;
     loop {
@@ -121,7 +121,7 @@ fn copy_between<S: Source, K: Sink, L: Sink>(
             bytes: &bytes,
             ended,
         };
-        match turn(alloc, &mut ends, sink, log, part) {
+        match turn(alloc, ends, sink, log, part) {
             Ok(()) => {}
             Err(status) => return status,
         }
@@ -180,12 +180,12 @@ fn turn<K: Sink, L: Sink>(
     // However far the copy has come: the bytes go over, are told and are stored, or the promise of the whole copy is kept.
     ensures goes_on { (from to told : Stream) → to.now ≡ K.written sink.old → to.faults ≡ K.faults sink.old
         → told.now ≡ L.written log.old → told.faults ≡ L.faults log.old
-        → IsBeforeTurn from to told (client_of ends.old.world) (server_of ends.old.world) ends.old.client_told ends.old.server_told part.before part.bytes.now part.ended
+        → IsBeforeTurn from to told (client_of ends.old.world) (server_of ends.old.world) ends.old.client_told ends.old.server_told part.entry.before part.entry.bytes.now part.entry.ended
         → OnOk result (IsAfterTurn from (moved to (K.written sink.new) (K.faults sink.new)) (moved told (L.written log.new) (L.faults log.new))
-        (client_of ends.new.world) (server_of ends.new.world) ends.new.client_told ends.new.server_told part.ended (part.before + length part.bytes.now)) }
+        (client_of ends.new.world) (server_of ends.new.world) ends.new.client_told ends.new.server_told part.entry.ended (part.entry.before + length part.entry.bytes.now)) }
     ensures stops { (from to told : Stream) → to.now ≡ K.written sink.old → to.faults ≡ K.faults sink.old
         → told.now ≡ L.written log.old → told.faults ≡ L.faults log.old
-        → IsBeforeTurn from to told (client_of ends.old.world) (server_of ends.old.world) ends.old.client_told ends.old.server_told part.before part.bytes.now part.ended
+        → IsBeforeTurn from to told (client_of ends.old.world) (server_of ends.old.world) ends.old.client_told ends.old.server_told part.entry.before part.entry.bytes.now part.entry.ended
         → IfErr result (λ status. KeepsPromise status from (moved to (K.written sink.new) (K.faults sink.new)) (moved told (L.written log.new) (L.faults log.new))) }
     ensures link { OnOk result (ends.new.world.link_cut ≡ false) }
 {

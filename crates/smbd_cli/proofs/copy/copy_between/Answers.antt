@@ -11,18 +11,18 @@ use Rattle.smbd_cli.proofs.copy.copy_between.Goals as goal
 
 pub returns-in-Err : goal.returns-in-Err
 returns-in-Err g c = record {
-  promise = stops_opening (client_of c.args.world) (server_of c.args.world) c.history.result.now c.history-2.result.now c.nothing-client_told.result c.nothing-server_told.result
+  promise = stops_opening (client_of c.args.ends.now.world) (server_of c.args.ends.now.world) c.history.result.now c.history-2.result.now c.args.ends.now.client_told c.args.ends.now.server_told
       (g.S.Source.left c.args.source.now) (g.K.Sink.written c.args.sink.now) (g.L.Sink.written c.args.log.now) (g.L.Sink.written c.tell.new.log) (g.S.Source.faults c.args.source.now) (g.K.Sink.faults c.args.sink.now)
-      (g.L.Sink.faults c.args.log.now) (g.L.Sink.faults c.tell.new.log) c.in-Err.status (ap client_of c.requires) (ap server_of c.requires) c.history.ensures.past c.history-2.ensures.past
-      c.nothing-client_told.ensures c.nothing-server_told.ensures c.in-Err.ensures.front c.in-Err.ensures.cause;
+      (g.L.Sink.faults c.args.log.now) (g.L.Sink.faults c.tell.new.log) c.in-Err.status (ap client_of c.requires.world) (ap server_of c.requires.world) c.history.ensures.past c.history-2.ensures.past
+      c.requires.client c.requires.server c.in-Err.ensures.front c.in-Err.ensures.cause;
 }
 
 pub returns-in_default : goal.returns-in_default
 returns-in_default g c =
-    let b = between_opening (client_of c.args.world) (server_of c.args.world) c.history.result.now c.history-2.result.now c.nothing-client_told.result c.nothing-server_told.result
+    let b = between_opening (client_of c.args.ends.now.world) (server_of c.args.ends.now.world) c.history.result.now c.history-2.result.now c.args.ends.now.client_told c.args.ends.now.server_told
     c.tell.new.client_told c.tell.new.server_told (g.S.Source.left c.args.source.now) (g.K.Sink.written c.args.sink.now) (g.L.Sink.written c.args.log.now) (g.L.Sink.written c.tell.new.log)
-    (g.S.Source.faults c.args.source.now) (g.K.Sink.faults c.args.sink.now) (g.L.Sink.faults c.args.log.now) (g.L.Sink.faults c.tell.new.log) (ap client_of c.requires) (ap server_of c.requires) c.history.ensures.past c.history-2.ensures.past
-    c.nothing-client_told.ensures c.nothing-server_told.ensures c.in-Ok.ensures.logged c.in-Ok.ensures.client c.in-Ok.ensures.server c.tell.ensures.later in
+    (g.S.Source.faults c.args.source.now) (g.K.Sink.faults c.args.sink.now) (g.L.Sink.faults c.args.log.now) (g.L.Sink.faults c.tell.new.log) (ap client_of c.requires.world) (ap server_of c.requires.world) c.history.ensures.past c.history-2.ensures.past
+    c.requires.client c.requires.server c.in-Ok.ensures.logged c.in-Ok.ensures.client c.in-Ok.ensures.server c.tell.ensures.later in
     record {
       promise = stops_without_memory (same (g.S.Source.left c.args.source.now) (g.S.Source.faults c.args.source.now)) (same (g.K.Sink.written c.args.sink.now) (g.K.Sink.faults c.args.sink.now)) (moved (same (g.L.Sink.written c.args.log.now) (g.L.Sink.faults c.args.log.now)) (g.L.Sink.written c.tell.new.log) (g.L.Sink.faults c.tell.new.log)) opening opening c.tell.new.client_told c.tell.new.server_told [] b [] (g.S.Source.left c.args.source.now) (g.S.Source.faults c.args.source.now)
           (Consumes-nil (g.S.Source.left c.args.source.now)) (lit≤ tt);
@@ -30,10 +30,10 @@ returns-in_default g c =
 
 pub returns-in-Err-read_turn : goal.returns-in-Err-read_turn
 returns-in-Err-read_turn g c =
-    let b = between_opening (client_of c.args.world) (server_of c.args.world) c.history.result.now c.history-2.result.now c.nothing-client_told.result c.nothing-server_told.result
+    let b = between_opening (client_of c.args.ends.now.world) (server_of c.args.ends.now.world) c.history.result.now c.history-2.result.now c.args.ends.now.client_told c.args.ends.now.server_told
     c.tell.new.client_told c.tell.new.server_told (g.S.Source.left c.args.source.now) (g.K.Sink.written c.args.sink.now) (g.L.Sink.written c.args.log.now) (g.L.Sink.written c.tell.new.log)
-    (g.S.Source.faults c.args.source.now) (g.K.Sink.faults c.args.sink.now) (g.L.Sink.faults c.args.log.now) (g.L.Sink.faults c.tell.new.log) (ap client_of c.requires) (ap server_of c.requires) c.history.ensures.past c.history-2.ensures.past
-    c.nothing-client_told.ensures c.nothing-server_told.ensures c.in-Ok.ensures.logged c.in-Ok.ensures.client c.in-Ok.ensures.server c.tell.ensures.later in
+    (g.S.Source.faults c.args.source.now) (g.K.Sink.faults c.args.sink.now) (g.L.Sink.faults c.args.log.now) (g.L.Sink.faults c.tell.new.log) (ap client_of c.requires.world) (ap server_of c.requires.world) c.history.ensures.past c.history-2.ensures.past
+    c.requires.client c.requires.server c.in-Ok.ensures.logged c.in-Ok.ensures.client c.in-Ok.ensures.server c.tell.ensures.later in
     record {
       promise = stops_reading (same (g.S.Source.left c.args.source.now) (g.S.Source.faults c.args.source.now)) (same (g.K.Sink.written c.args.sink.now) (g.K.Sink.faults c.args.sink.now)) (moved (same (g.L.Sink.written c.args.log.now) (g.L.Sink.faults c.args.log.now)) (g.L.Sink.written c.tell.new.log) (g.L.Sink.faults c.tell.new.log)) opening opening c.tell.new.client_told c.tell.new.server_told [] b c.read_turn.new.bytes.items (g.S.Source.left c.read_turn.new.source) (g.S.Source.faults c.read_turn.new.source)
           c.in-Err-read_turn.status c.read_turn.ensures.read c.in-Err-read_turn.ensures.stops;
@@ -41,10 +41,10 @@ returns-in-Err-read_turn g c =
 
 pub returns-in_default-negotiate : goal.returns-in_default-negotiate
 returns-in_default-negotiate g c =
-    let b = between_opening (client_of c.args.world) (server_of c.args.world) c.history.result.now c.history-2.result.now c.nothing-client_told.result c.nothing-server_told.result
+    let b = between_opening (client_of c.args.ends.now.world) (server_of c.args.ends.now.world) c.history.result.now c.history-2.result.now c.args.ends.now.client_told c.args.ends.now.server_told
     c.tell.new.client_told c.tell.new.server_told (g.S.Source.left c.args.source.now) (g.K.Sink.written c.args.sink.now) (g.L.Sink.written c.args.log.now) (g.L.Sink.written c.tell.new.log)
-    (g.S.Source.faults c.args.source.now) (g.K.Sink.faults c.args.sink.now) (g.L.Sink.faults c.args.log.now) (g.L.Sink.faults c.tell.new.log) (ap client_of c.requires) (ap server_of c.requires) c.history.ensures.past c.history-2.ensures.past
-    c.nothing-client_told.ensures c.nothing-server_told.ensures c.in-Ok.ensures.logged c.in-Ok.ensures.client c.in-Ok.ensures.server c.tell.ensures.later in
+    (g.S.Source.faults c.args.source.now) (g.K.Sink.faults c.args.sink.now) (g.L.Sink.faults c.args.log.now) (g.L.Sink.faults c.tell.new.log) (ap client_of c.requires.world) (ap server_of c.requires.world) c.history.ensures.past c.history-2.ensures.past
+    c.requires.client c.requires.server c.in-Ok.ensures.logged c.in-Ok.ensures.client c.in-Ok.ensures.server c.tell.ensures.later in
     record {
       promise = stops_without_memory (same (g.S.Source.left c.args.source.now) (g.S.Source.faults c.args.source.now)) (same (g.K.Sink.written c.args.sink.now) (g.K.Sink.faults c.args.sink.now)) (moved (same (g.L.Sink.written c.args.log.now) (g.L.Sink.faults c.args.log.now)) (g.L.Sink.written c.tell.new.log) (g.L.Sink.faults c.tell.new.log)) opening opening c.tell.new.client_told c.tell.new.server_told [] b c.read_turn.new.bytes.items (g.S.Source.left c.read_turn.new.source) (g.S.Source.faults c.read_turn.new.source)
           c.read_turn.ensures.read c.in-Ok-read_turn.ensures.short;
@@ -52,28 +52,28 @@ returns-in_default-negotiate g c =
 
 pub loop-status-init : goal.loop-status-init
 loop-status-init g c =
-    let b = between_opening (client_of c.args.world) (server_of c.args.world) c.history.result.now c.history-2.result.now c.nothing-client_told.result c.nothing-server_told.result
+    let b = between_opening (client_of c.args.ends.now.world) (server_of c.args.ends.now.world) c.history.result.now c.history-2.result.now c.args.ends.now.client_told c.args.ends.now.server_told
     c.tell.new.client_told c.tell.new.server_told (g.S.Source.left c.args.source.now) (g.K.Sink.written c.args.sink.now) (g.L.Sink.written c.args.log.now) (g.L.Sink.written c.tell.new.log)
-    (g.S.Source.faults c.args.source.now) (g.K.Sink.faults c.args.sink.now) (g.L.Sink.faults c.args.log.now) (g.L.Sink.faults c.tell.new.log) (ap client_of c.requires) (ap server_of c.requires) c.history.ensures.past c.history-2.ensures.past
-    c.nothing-client_told.ensures c.nothing-server_told.ensures c.in-Ok.ensures.logged c.in-Ok.ensures.client c.in-Ok.ensures.server c.tell.ensures.later in
+    (g.S.Source.faults c.args.source.now) (g.K.Sink.faults c.args.sink.now) (g.L.Sink.faults c.args.log.now) (g.L.Sink.faults c.tell.new.log) (ap client_of c.requires.world) (ap server_of c.requires.world) c.history.ensures.past c.history-2.ensures.past
+    c.requires.client c.requires.server c.in-Ok.ensures.logged c.in-Ok.ensures.client c.in-Ok.ensures.server c.tell.ensures.later in
     record {
       so_far = next_turn (same (g.S.Source.left c.args.source.now) (g.S.Source.faults c.args.source.now)) (same (g.K.Sink.written c.args.sink.now) (g.K.Sink.faults c.args.sink.now)) (moved (same (g.L.Sink.written c.args.log.now) (g.L.Sink.faults c.args.log.now)) (g.L.Sink.written c.tell.new.log) (g.L.Sink.faults c.tell.new.log)) opening opening (client_of c.negotiate.new.world) (server_of c.negotiate.new.world) c.tell.new.client_told c.tell.new.server_told [] c.read_turn.new.bytes.items c.in-Ok-read_turn.ended
           (g.S.Source.left c.read_turn.new.source) (g.S.Source.faults c.read_turn.new.source) b
-          (went_on (client_of c.args.world) (client_of c.negotiate.new.world) c.in-Ok-negotiate.ensures.client) (went_on_server (server_of c.args.world) (server_of c.negotiate.new.world) c.in-Ok-negotiate.ensures.server)
-          (agreed_put (client_of c.args.world) (server_of c.args.world) (client_of c.negotiate.new.world) (server_of c.negotiate.new.world) (ap client_of c.requires) (ap server_of c.requires) c.in-Ok-negotiate.ensures.client c.in-Ok-negotiate.ensures.server)
+          (went_on (client_of c.args.ends.now.world) (client_of c.negotiate.new.world) c.in-Ok-negotiate.ensures.client) (went_on_server (server_of c.args.ends.now.world) (server_of c.negotiate.new.world) c.in-Ok-negotiate.ensures.server)
+          (agreed_put (client_of c.args.ends.now.world) (server_of c.args.ends.now.world) (client_of c.negotiate.new.world) (server_of c.negotiate.new.world) (ap client_of c.requires.world) (ap server_of c.requires.world) c.in-Ok-negotiate.ensures.client c.in-Ok-negotiate.ensures.server)
           c.read_turn.ensures.read c.read_turn.ensures.later c.in-Ok-read_turn.ensures.short c.in-Ok-read_turn.ensures.last c.in-Ok-read_turn.ensures.whole;
       link = c.in-Ok-negotiate.ensures.link;
       room = c.read_turn.ensures.room;
     }
 
 pub negotiate-requires-clause-client : goal.negotiate-requires-clause-client
-negotiate-requires-clause-client g c = ap client_of c.requires
+negotiate-requires-clause-client g c = ap client_of c.requires.world
 
 pub negotiate-requires-clause-server : goal.negotiate-requires-clause-server
-negotiate-requires-clause-server g c = ap server_of c.requires
+negotiate-requires-clause-server g c = ap server_of c.requires.world
 
 pub negotiate-requires-clause-link : goal.negotiate-requires-clause-link
-negotiate-requires-clause-link g c = ap (λ (w : State). w.link_cut) c.requires
+negotiate-requires-clause-link g c = ap (λ (w : State). w.link_cut) c.requires.world
 
 pub turn-requires-clause-pair : goal.turn-requires-clause-pair
 turn-requires-clause-pair g c = c.loop-status.invariant.so_far.put.pair
