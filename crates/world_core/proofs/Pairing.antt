@@ -1,5 +1,5 @@
 -- What a choice does to the two ends of a link.
-use Rattle.std.proofs.Common.{◌≡◌, ℕ, Bool, true, false, cond, Option, Some, None, is_none, List, [], ◌∷◌, ◌++◌, refl, ap, subst, sym, ◌∙◌, append-nil, append_assoc}
+use Rattle.std.proofs.Common.{◌≡◌, ℕ, Bool, true, false, cond, Option, Some, None, is_none, List, [], ◌∷◌, ◌++◌, option_to_list, refl, ap, subst, sym, ◌∙◌, append-nil, append_assoc}
 use Rattle.std.proofs.lemmas.List.{append_cancel_left}
 use Rattle.smbd_base.specs.declared.event.Event.{Event}
 use Rattle.smbd_base.specs.declared.event.Event.TheVariants.{Post, Submit, Emit, Take, Cut}
@@ -8,16 +8,20 @@ use Rattle.smbd_base.specs.declared.next.Next.TheVariants as due
 use Rattle.smbd_base.specs.declared.faults.SubmitFault.{SubmitFault}
 use Rattle.smbd_base.specs.Limits.{IsLawful}
 use Rattle.smbd_base.specs.Counts.{peer_of}
-use Rattle.smbd_base.specs.History.{next_event, submit_fault, take_fault, is_cut, is_ready}
+use Rattle.smbd_base.specs.Delivery.{messages_delivered, message_brought}
+use Rattle.smbd_base.specs.History.{next_event, submit_fault, take_fault, is_cut, is_ready, messages_submitted}
 use Rattle.smbd_base.specs.Joint.{emitted_frames, taken_frames}
 use Rattle.joint_laws.specs.Growth.{IsNextFrame, MayAdd}
 use Rattle.joint_laws.proofs.Growing.{IsBeside, grown}
 use Rattle.world_core.specs.declared.choice.Choice.{Choice}
 use Rattle.world_core.specs.declared.choice.Choice.TheVariants as choices
-use Rattle.world_core.specs.Linked.{Linked, driven, arrival, event_of_choice, event_at, still_arriving, frames_in, own_after, peer_after, TakesNext}
+use Rattle.world_core.specs.Linked.{Linked, driven, arrival, event_of_choice, event_at, still_arriving, frames_in, still_undelivered, messages_in, own_after, peer_after, StandsFirst, TakesNext}
+use Rattle.world_core.specs.Newest.{newest_brought}
+use Rattle.smbd_base.proofs.DeliveryLemmas.{delivered-take}
 use Rattle.smbd_laws.proofs.Accepting.{accepted_legal}
+use Rattle.smbd_laws.proofs.Delivering.{delivered_both}
 
--- an end with its peer, and the frames in flight to each
+-- an end with its peer, the frames in flight to each, and the messages that are kept for each
 pub record IsPair (own peer : Linked) : Type 0 where
   pub peer_side : peer.side ≡ peer_of own.side
   pub own_lawful : IsLawful own.limits
@@ -25,6 +29,8 @@ pub record IsPair (own peer : Linked) : Type 0 where
   pub beside : IsBeside own.side own.limits peer.limits own.past peer.past
   pub to_own : emitted_frames peer.past ≡ taken_frames own.past ++ own.arriving
   pub to_peer : emitted_frames own.past ≡ taken_frames peer.past ++ peer.arriving
+  pub for_own : messages_submitted peer.past ≡ messages_delivered own.side own.limits own.past ++ own.undelivered
+  pub for_peer : messages_submitted own.past ≡ messages_delivered peer.side peer.limits peer.past ++ peer.undelivered
 
 -- the oldest frame in flight is not refused
 pub accepted : (own peer : Linked) (frame : List ℕ) (later : List (List ℕ)) → IsPair own peer → own.arriving ≡ frame ∷ later
@@ -35,8 +41,30 @@ accepted own peer frame later h is =
       accepted_legal own.side own.limits peer.limits own.past peer.past frame later h.own_lawful h.peer_lawful h.beside.peer_legal h.beside.own_legal h.beside.to_peer sent,
     )
 
+stands_by : (o : Option (List ℕ)) (messages rest : List (List ℕ)) → messages ≡ option_to_list o ++ rest → StandsFirst o messages
+stands_by None messages rest is = tt
+stands_by (Some message) messages rest is = (rest, is)
+
+-- the message that a frame ends, where it ends one, is the oldest one that is undelivered
+stands : (own peer : Linked) (frame : List ℕ) → IsPair own peer → MayAdd own.side own.limits (Take frame) own.past peer.past
+    → StandsFirst (message_brought own.side own.limits own.past frame) own.undelivered
+stands own peer frame h may =
+    let brought : Option (List ℕ) = message_brought own.side own.limits own.past frame in
+    let earlier : List (List ℕ) = messages_delivered own.side own.limits own.past in
+    let after = grown own.side own.limits peer.limits own.past peer.past (Take frame) h.own_lawful h.peer_lawful h.beside may in
+    let front = delivered_both own.side own.limits peer.limits (Take frame ∷ own.past) peer.past h.own_lawful h.peer_lawful
+    after.own_legal after.peer_legal after.own_accepted after.to_own after.to_peer in
+    let all : earlier ++ (option_to_list brought ++ front.0) ≡ messages_submitted peer.past =
+    sym (append_assoc earlier (option_to_list brought) front.0)
+    ∙ ap (λ (ms : List (List ℕ)). ms ++ front.0) (sym (delivered-take own.side own.limits own.past frame)) ∙ front.1 in
+    stands_by brought own.undelivered front.0
+    (append_cancel_left earlier own.undelivered (option_to_list brought ++ front.0) (sym h.for_own ∙ sym all))
+
 pub takes_next : (own peer : Linked) → IsPair own peer → TakesNext own
-takes_next own peer h = record { accepted = λ frame later is. (accepted own peer frame later h is).1 }
+takes_next own peer h = record {
+  accepted = λ frame later is. (accepted own peer frame later h is).1;
+  brings = λ frame later is ready. stands own peer frame h (ready, accepted own peer frame later h is);
+}
 
 -- ---- the event that a choice adds
 
@@ -125,6 +153,47 @@ peer_arrivals own peer event h = by_kind event where
   by_kind (Take f) = same
   by_kind Cut = same
 
+-- ---- the messages that are kept for each end, after an event
+
+left_after : (o : Option (List ℕ)) (messages : List (List ℕ)) → StandsFirst o messages → messages ≡ option_to_list o ++ still_undelivered o messages
+left_after None messages first = refl
+left_after (Some message) messages first =
+    first.1 ∙ ap (λ (ms : List (List ℕ)). message ∷ still_undelivered (Some message) ms) (sym first.1)
+
+delivered_next : (own peer : Linked) (frame : List ℕ) → IsPair own peer → MayAdd own.side own.limits (Take frame) own.past peer.past
+    → messages_submitted peer.past ≡ messages_delivered own.side own.limits (Take frame ∷ own.past)
+    ++ still_undelivered (message_brought own.side own.limits own.past frame) own.undelivered
+delivered_next own peer frame h may =
+    let brought : Option (List ℕ) = message_brought own.side own.limits own.past frame in
+    let earlier : List (List ℕ) = messages_delivered own.side own.limits own.past in
+    let left : List (List ℕ) = still_undelivered brought own.undelivered in
+    h.for_own ∙ ap (λ (ms : List (List ℕ)). earlier ++ ms) (left_after brought own.undelivered (stands own peer frame h may))
+    ∙ sym (append_assoc earlier (option_to_list brought) left)
+    ∙ ap (λ (ms : List (List ℕ)). ms ++ left) (sym (delivered-take own.side own.limits own.past frame))
+
+own_messages : (own peer : Linked) (event : Event) → IsPair own peer → MayAdd own.side own.limits event own.past peer.past
+    → messages_submitted peer.past ≡ messages_delivered own.side own.limits (event ∷ own.past)
+    ++ still_undelivered (newest_brought own.side own.limits (event ∷ own.past)) own.undelivered
+own_messages own peer (Post n) h may = h.for_own
+own_messages own peer (Submit m) h may = h.for_own
+own_messages own peer (Emit f) h may = h.for_own
+own_messages own peer (Take f) h may = delivered_next own peer f h may
+own_messages own peer Cut h may = h.for_own
+
+peer_messages : (own peer : Linked) (event : Event) → IsPair own peer
+    → messages_submitted (event ∷ own.past) ≡ messages_delivered peer.side peer.limits peer.past ++ (peer.undelivered ++ messages_in event)
+peer_messages own peer event h = by_kind event where
+  same : messages_submitted own.past ≡ messages_delivered peer.side peer.limits peer.past ++ (peer.undelivered ++ [])
+  same = h.for_peer ∙ ap (λ (ms : List (List ℕ)). messages_delivered peer.side peer.limits peer.past ++ ms) (sym (append-nil peer.undelivered))
+
+  by_kind : (e : Event) → messages_submitted (e ∷ own.past) ≡ messages_delivered peer.side peer.limits peer.past ++ (peer.undelivered ++ messages_in e)
+  by_kind (Post n) = same
+  by_kind (Submit m) =
+      ap (λ (ms : List (List ℕ)). ms ++ m ∷ []) h.for_peer ∙ append_assoc (messages_delivered peer.side peer.limits peer.past) peer.undelivered (m ∷ [])
+  by_kind (Emit f) = same
+  by_kind (Take f) = same
+  by_kind Cut = same
+
 -- ---- after a choice
 
 pub pair_after : (own peer : Linked) (link_cut : Bool) (choice : Choice) → IsPair own peer
@@ -141,4 +210,6 @@ pair_after own peer link_cut choice h = by_event (event_at own link_cut choice) 
         beside = grown own.side own.limits peer.limits own.past peer.past event h.own_lawful h.peer_lawful h.beside may;
         to_own = own_arrivals own peer event h may;
         to_peer = peer_arrivals own peer event h;
+        for_own = own_messages own peer event h may;
+        for_peer = peer_messages own peer event h;
       }

@@ -8,6 +8,8 @@ use Rattle.smbd_base.specs.declared.event.Event.TheVariants.{Post}
 use Rattle.smbd_base.specs.declared.no_memory.NoMemory.{NoMemory}
 use Rattle.smbd_base.specs.Limits.{Limits, IsLawful}
 use Rattle.smbd_base.specs.Counts.{peer_of}
+use Rattle.smbd_base.specs.Delivery.{messages_delivered}
+use Rattle.smbd_base.specs.History.{messages_submitted}
 use Rattle.smbd_base.specs.Joint.{emitted_frames, taken_frames}
 use Rattle.joint_laws.proofs.Growing.{IsBeside, client_beside, turned, turned_back, joint, opened_joint}
 use Rattle.world_core.specs.declared.choice.Choice.{Choice}
@@ -15,7 +17,7 @@ use Rattle.world_core.specs.declared.choice.Step.{Step}
 use Rattle.world_core.specs.Choices.{end_of}
 use Rattle.world_core.specs.Linked.{Linked, event_at, own_after, peer_after, TakesNext}
 use Rattle.world_core.specs.Paired.{state_of, ArePaired}
-use Rattle.world_core.specs.Run.{State, linked_of, frames_in_flight, event_chosen, link_after, order_after, state_after, step_of, AreDelivered}
+use Rattle.world_core.specs.Run.{State, linked_of, frames_in_flight, messages_left, event_chosen, link_after, order_after, state_after, step_of, AreDelivered}
 use Rattle.smbd_laws.proofs.Delivering.{server_delivers, client_delivers}
 use Rattle.world_core.proofs.Pairing.{IsPair, takes_next, pair_after}
 
@@ -33,6 +35,8 @@ client_pair client server h = record {
       (client_beside client.limits server.limits client.past server.past h.client_lawful h.server_lawful h.joint);
   to_own = h.to_client;
   to_peer = h.to_server;
+  for_own = h.for_client;
+  for_peer = h.for_server;
 }
 
 server_pair : (client server : Linked) → ArePaired client server → IsPair server client
@@ -45,6 +49,8 @@ server_pair client server h = record {
       (client_beside client.limits server.limits client.past server.past h.client_lawful h.server_lawful h.joint));
   to_own = h.to_server;
   to_peer = h.to_client;
+  for_own = h.for_server;
+  for_peer = h.for_client;
 }
 
 paired_client : (client server : Linked) → client.side ≡ Client → server.side ≡ Server → IsPair client server → ArePaired client server
@@ -57,6 +63,8 @@ paired_client client server is is' h = record {
       (beside_at client.side Client client.limits server.limits client.past server.past is h.beside);
   to_client = h.to_own;
   to_server = h.to_peer;
+  for_client = h.for_own;
+  for_server = h.for_peer;
 }
 
 paired_server : (client server : Linked) → client.side ≡ Client → server.side ≡ Server → IsPair server client → ArePaired client server
@@ -70,6 +78,8 @@ paired_server client server is is' h = record {
       (beside_at server.side Server server.limits client.limits server.past client.past is' h.beside));
   to_client = h.to_peer;
   to_server = h.to_own;
+  for_client = h.for_peer;
+  for_server = h.for_own;
 }
 
 pub client_takes_next : (client server : Linked) → ArePaired client server → TakesNext client
@@ -128,15 +138,24 @@ server_paired (Err fault) client server client' server' link_cut choice h own pe
 in_flight : (own peer : Linked) → emitted_frames peer.past ≡ taken_frames own.past ++ own.arriving → frames_in_flight own.past peer.past ≡ own.arriving
 in_flight own peer is = ap (λ (fs : List (List ℕ)). drop (length (taken_frames own.past)) fs) is ∙ drop_at (taken_frames own.past) own.arriving (length (taken_frames own.past)) refl
 
+left_for : (side : EndId) (own peer : Linked) → own.side ≡ side → messages_submitted peer.past ≡ messages_delivered own.side own.limits own.past ++ own.undelivered
+    → messages_left side own.limits own.past peer.past ≡ own.undelivered
+left_for side own peer is all =
+    let delivered : List (List ℕ) = messages_delivered own.side own.limits own.past in
+    ap (λ (x : EndId). messages_left x own.limits own.past peer.past) (sym is)
+    ∙ ap (λ (ms : List (List ℕ)). drop (length delivered) ms) all ∙ drop_at delivered own.undelivered (length delivered) refl
+
 client_linked : (client server : Linked) (link_cut : Bool) (order : List EndId) → ArePaired client server → linked_of Client (state_of client server link_cut order) ≡ client
 client_linked client server link_cut order h =
     let flight = in_flight client server h.to_client in
-    λ i. record { side = (sym h.client_side) i; limits = client.limits; past = client.past; arriving = flight i }
+    let left = left_for Client client server h.client_side h.for_client in
+    λ i. record { side = (sym h.client_side) i; limits = client.limits; past = client.past; arriving = flight i; undelivered = left i }
 
 server_linked : (client server : Linked) (link_cut : Bool) (order : List EndId) → ArePaired client server → linked_of Server (state_of client server link_cut order) ≡ server
 server_linked client server link_cut order h =
     let flight = in_flight server client h.to_server in
-    λ i. record { side = (sym h.server_side) i; limits = server.limits; past = server.past; arriving = flight i }
+    let left = left_for Server server client h.server_side h.for_server in
+    λ i. record { side = (sym h.server_side) i; limits = server.limits; past = server.past; arriving = flight i; undelivered = left i }
 
 pub client_chosen : (client server : Linked) (link_cut : Bool) (order : List EndId) (choice : Choice) → ArePaired client server → end_of choice ≡ Client
     → event_chosen (state_of client server link_cut order) choice ≡ event_at client link_cut choice
@@ -191,8 +210,8 @@ server_stepped (Err fault) client server client' server' link_cut link_cut' orde
 -- ---- the beginning
 
 opened_pair : (client_limits server_limits : Limits) → IsLawful client_limits → IsLawful server_limits
-    → ArePaired (record { side = Client; limits = client_limits; past = Post client_limits.credits ∷ []; arriving = [] })
-    (record { side = Server; limits = server_limits; past = Post server_limits.credits ∷ []; arriving = [] })
+    → ArePaired (record { side = Client; limits = client_limits; past = Post client_limits.credits ∷ []; arriving = []; undelivered = [] })
+    (record { side = Server; limits = server_limits; past = Post server_limits.credits ∷ []; arriving = []; undelivered = [] })
 opened_pair client_limits server_limits lawful lawful' = record {
   client_side = refl;
   server_side = refl;
@@ -201,11 +220,13 @@ opened_pair client_limits server_limits lawful lawful' = record {
   joint = opened_joint client_limits server_limits lawful lawful';
   to_client = refl;
   to_server = refl;
+  for_client = refl;
+  for_server = refl;
 }
 
 pub opened_paired : (client server : Linked) (client_limits server_limits : Limits)
-    → client ≡ record { side = Client; limits = client_limits; past = Post client_limits.credits ∷ []; arriving = [] }
-    → server ≡ record { side = Server; limits = server_limits; past = Post server_limits.credits ∷ []; arriving = [] }
+    → client ≡ record { side = Client; limits = client_limits; past = Post client_limits.credits ∷ []; arriving = []; undelivered = [] }
+    → server ≡ record { side = Server; limits = server_limits; past = Post server_limits.credits ∷ []; arriving = []; undelivered = [] }
     → IsLawful client.limits → IsLawful server.limits → ArePaired client server
 opened_paired client server client_limits server_limits is is' lawful lawful' =
     rw (is, is')

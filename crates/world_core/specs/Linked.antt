@@ -1,5 +1,5 @@
 -- An end on a link. A past is a list of events, the newest one first.
-use Rattle.std.specs.Prelude.{◌≡◌, ℕ, Bool, is_none, Option, Some, None, List, [], ◌∷◌, ◌++◌, if◌then◌else◌}
+use Rattle.std.specs.Prelude.{◌≡◌, ℕ, Bool, true, is_none, Option, Some, None, List, [], ◌∷◌, ◌++◌, if◌then◌else◌}
 use Rattle.smbd_base.specs.declared.end_id.EndId.{EndId}
 use Rattle.smbd_base.specs.declared.event.Event.{Event}
 use Rattle.smbd_base.specs.declared.event.Event.TheVariants.{Post, Submit, Emit, Take, Cut}
@@ -8,14 +8,18 @@ use Rattle.smbd_base.specs.declared.next.Next.TheVariants as due
 use Rattle.smbd_base.specs.Limits.{Limits}
 use Rattle.smbd_base.specs.History.{next_event, submit_fault, take_fault, is_cut, is_ready}
 use Rattle.world_core.specs.declared.choice.Choice.{Choice}
+use Rattle.smbd_base.specs.Delivery.{message_brought}
 use Rattle.world_core.specs.declared.choice.Choice.TheVariants as choices
+use Rattle.world_core.specs.Newest.{newest_brought}
 
--- an end, its past, and the frames in flight to it, the oldest one first
+-- an end, its past, the frames in flight to it, and the messages that its peer has submitted and it has not delivered, the
+-- oldest one first
 pub record Linked : Type 0 where
   pub side : EndId
   pub limits : Limits
   pub past : List Event
   pub arriving : List (List ℕ)
+  pub undelivered : List (List ℕ)
 
 -- ---- the event that a choice adds
 
@@ -69,16 +73,44 @@ frames_in (Emit frame) = frame ∷ []
 frames_in (Take frame) = []
 frames_in Cut = []
 
+-- the message that is delivered, where one is, is no longer undelivered
+abbrev pub still_undelivered : Option (List ℕ) → List (List ℕ) → List (List ℕ)
+still_undelivered None messages = messages
+still_undelivered (Some message) [] = []
+still_undelivered (Some message) (first ∷ later) = later
+
+-- the message that is submitted
+abbrev pub messages_in : Event → List (List ℕ)
+messages_in (Post n) = []
+messages_in (Submit message) = message ∷ []
+messages_in (Emit frame) = []
+messages_in (Take frame) = []
+messages_in Cut = []
+
 -- the end that adds the event
 abbrev pub own_after : Linked → Option Event → Linked
 own_after own None = own
-own_after own (Some event) = record own { past = event ∷ own.past; arriving = still_arriving event own.arriving }
+own_after own (Some event) = record own {
+  past = event ∷ own.past;
+  arriving = still_arriving event own.arriving;
+  undelivered = still_undelivered (newest_brought own.side own.limits (event ∷ own.past)) own.undelivered;
+}
 
 -- and its peer
 abbrev pub peer_after : Linked → Option Event → Linked
 peer_after peer None = peer
-peer_after peer (Some event) = record peer { arriving = peer.arriving ++ frames_in event }
+peer_after peer (Some event) = record peer {
+  arriving = peer.arriving ++ frames_in event;
+  undelivered = peer.undelivered ++ messages_in event;
+}
 
--- the oldest frame in flight is not refused
+-- this message, where there is one, is the first of the list
+abbrev pub StandsFirst : Option (List ℕ) → List (List ℕ) → Type 0
+StandsFirst None messages = Unit {0}
+StandsFirst (Some message) messages = (later : List (List ℕ)) × (messages ≡ message ∷ later)
+
+-- the oldest frame in flight is not refused, and the message that it ends is the oldest one that is undelivered
 pub record TakesNext (own : Linked) : Type 0 where
   pub accepted : (frame : List ℕ) (later : List (List ℕ)) → own.arriving ≡ frame ∷ later → take_fault own.side own.limits own.past frame ≡ None
+  pub brings : (frame : List ℕ) (later : List (List ℕ)) → own.arriving ≡ frame ∷ later → is_ready own.side own.limits own.past ≡ true
+      → StandsFirst (message_brought own.side own.limits own.past frame) own.undelivered

@@ -3,6 +3,8 @@ use Rattle.std.specs.Prelude.{◌≡◌, Bool, List, ◌++◌}
 use Rattle.smbd_base.specs.declared.end_id.EndId.{EndId}
 use Rattle.smbd_base.specs.declared.end_id.EndId.TheVariants.{Client, Server}
 use Rattle.smbd_base.specs.Limits.{IsLawful}
+use Rattle.smbd_base.specs.Delivery.{messages_delivered}
+use Rattle.smbd_base.specs.History.{messages_submitted}
 use Rattle.smbd_base.specs.Joint.{AreJoint, emitted_frames, taken_frames}
 use Rattle.world_core.specs.Linked.{Linked}
 use Rattle.world_core.specs.Run.{State}
@@ -18,7 +20,8 @@ state_of client server link_cut order = record {
   order = order;
 }
 
--- they are a client and a server with joint histories, and the frames in flight to each are those that it has not taken
+-- They are a client and a server with joint histories. The frames in flight to each are those that it has not taken, and the
+-- messages that are kept for it those that it has not delivered.
 pub record ArePaired (client server : Linked) : Type 0 where
   pub client_side : client.side ≡ Client
   pub server_side : server.side ≡ Server
@@ -27,3 +30,5 @@ pub record ArePaired (client server : Linked) : Type 0 where
   pub joint : AreJoint client.limits server.limits client.past server.past
   pub to_client : emitted_frames server.past ≡ taken_frames client.past ++ client.arriving
   pub to_server : emitted_frames client.past ≡ taken_frames server.past ++ server.arriving
+  pub for_client : messages_submitted server.past ≡ messages_delivered client.side client.limits client.past ++ client.undelivered
+  pub for_server : messages_submitted client.past ≡ messages_delivered server.side server.limits server.past ++ server.undelivered

@@ -34,18 +34,24 @@ limits_of Server state = state.server_limits
 abbrev pub frames_in_flight : List Event → List Event → List (List ℕ)
 frames_in_flight own peer = drop (length (taken_frames own)) (emitted_frames peer)
 
+-- the messages that the peer of an end has submitted, past those that the end has delivered
+abbrev pub messages_left : EndId → Limits → List Event → List Event → List (List ℕ)
+messages_left side limits own peer = drop (length (messages_delivered side limits own)) (messages_submitted peer)
+
 abbrev pub linked_of : EndId → State → Linked
 linked_of Client state = record {
   side = Client;
   limits = state.client_limits;
   past = state.client;
   arriving = frames_in_flight state.client state.server;
+  undelivered = messages_left Client state.client_limits state.client state.server;
 }
 linked_of Server state = record {
   side = Server;
   limits = state.server_limits;
   past = state.server;
   arriving = frames_in_flight state.server state.client;
+  undelivered = messages_left Server state.server_limits state.server state.client;
 }
 
 -- ---- the steps

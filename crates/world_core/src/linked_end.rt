@@ -1,4 +1,4 @@
-//! An end with the frames in flight to it, and the messages that it has delivered.
+//! An end with the frames in flight to it, and the messages that it has delivered, and is still to deliver.
 
 ghost use Rattle.std.specs.Prelude.{◌≡◌, [], ◌∷◌, ◌++◌, ◌<◌, true, false, Some, None, List, IfOk, OnOk, OnErr, option_copied, option_to_list, reverse};
 ghost use Rattle.smbd_base.specs.declared.event.Event.TheVariants as events;
@@ -8,7 +8,7 @@ ghost use Rattle.smbd_base.specs.Limits.{IsLawful};
 ghost use Rattle.world_core.specs.Choices.{answer_of};
 ghost use Rattle.world_core.specs.Kept.{newest_in};
 ghost use Rattle.world_core.specs.Newest.{newest_brought};
-ghost use Rattle.world_core.specs.Linked.{Linked, submission, driven, carried, event_at, own_after, peer_after, TakesNext};
+ghost use Rattle.world_core.specs.Linked.{Linked, submission, driven, carried, event_at, own_after, peer_after, still_undelivered, StandsFirst, TakesNext};
 
 use crate::choice::{Choice, Step};
 use connection_core::{End, SubmitRefused, TakeRefused};
@@ -17,11 +17,17 @@ use std::alloc::Global;
 use std::collections::VecDeque;
 use std::marker::Model;
 
-/// An end on a link. Contracts see its side, its limits, its past, and the frames in flight to it.
+/// An end on a link. Contracts see its side, its limits, its past, the frames in flight to it, and the messages that it has not
+/// delivered yet.
+///
+/// What an end delivers is, byte for byte, what its peer submitted. So the list of its messages holds clones of those of the
+/// peer, which share their bytes, and the bytes that were gathered are let go.
 #[derive(Drop)]
 pub struct LinkedEnd {
     end: End,
     arriving: VecDeque<Frame>,
+    /// What the peer has submitted, and this end has not delivered.
+    undelivered: VecDeque<Message>,
     delivered: Vec<Message>,
     /// Whether the newest event has delivered the last of these messages.
     is_newest: bool,
@@ -33,15 +39,15 @@ impl Model for LinkedEnd {
 
     ghost Value = { Linked };
 
-    ghost view = { λ l. record { side = l.end.side; limits = l.end.limits; past = l.end.past; arriving = l.arriving.items } };
+    ghost view = { λ l. record { side = l.end.side; limits = l.end.limits; past = l.end.past; arriving = l.arriving.items; undelivered = l.undelivered.items } };
 
     ghost invariant = { λ l. IsKept l.end l.delivered.items l.is_newest };
 }
 
 impl LinkedEnd {
-    /// An end that has posted its receives, and nothing is in flight to it.
+    /// An end that has posted its receives. Nothing is in flight to it, and no message is kept for it.
     pub fn open(alloc: Global, side: EndId, limits: EndLimits) -> Result<LinkedEnd, NoMemory>
-        ensures { IfOk result (λ l. l ≡ record { side = side; limits = limits; past = events.Post limits.credits ∷ []; arriving = [] }) }
+        ensures { IfOk result (λ l. l ≡ record { side = side; limits = limits; past = events.Post limits.credits ∷ []; arriving = []; undelivered = [] }) }
     {
         let end = match side {
             EndId::Client => End::open_client(alloc, limits)?,
@@ -50,6 +56,7 @@ impl LinkedEnd {
         Ok(LinkedEnd {
             end,
             arriving: VecDeque::new(alloc),
+            undelivered: VecDeque::new(alloc),
             delivered: Vec::new(alloc),
             is_newest: false,
         })
@@ -71,14 +78,19 @@ impl LinkedEnd {
         self.is_newest = false;
     }
 
-    /// Submits a message, where the end does not refuse it.
-    pub fn submit(&mut self, message: &Message) -> Result<Step, NoMemory>
+    /// Submits a message, where the end does not refuse it, and keeps it for the peer to deliver.
+    pub fn submit(&mut self, peer: &mut LinkedEnd, message: &Message) -> Result<Step, NoMemory>
         ensures answer { IfOk result (λ s. s ≡ answer_of (submission self.old message.now)) }
         ensures added { OnOk result (self.new ≡ own_after self.old (submission self.old message.now)) }
+        ensures kept { OnOk result (peer.new ≡ peer_after peer.old (submission self.old message.now)) }
         ensures same { OnErr result (self.new ≡ self.old) }
+        ensures peer_same { OnErr result (peer.new ≡ peer.old) }
     {
+        peer.undelivered.reserve(1)?;
         let copy = copy_of(message)?;
+        let shared = copy_of(message)?;
         let Err(refused) = self.end.submit(copy) else {
+            peer.undelivered.push_back_reserved(shared);
             self.is_newest = false;
             return Ok(Step::Did);
         };
@@ -141,7 +153,12 @@ impl LinkedEnd {
             return Ok(Step::Nothing);
         };
         let frame = first.clone()?;
-        self.is_newest = take(&mut self.end, &mut self.delivered, frame)?;
+        self.is_newest = take(
+            &mut self.end,
+            &mut self.undelivered,
+            &mut self.delivered,
+            frame,
+        )?;
         drop(self.arriving.pop_front());
         Ok(Step::Did)
     }
@@ -173,21 +190,33 @@ impl LinkedEnd {
     }
 }
 
-/// Takes a frame that is not refused, and keeps the message that it ends. Answers whether it ends one.
-fn take(end: &mut End, delivered: &mut Vec<Message>, frame: Frame) -> Result<bool, NoMemory>
+/// Takes a frame that is not refused, and delivers the message that it ends, as the peer submitted it. Answers whether it ends
+/// one.
+fn take(
+    end: &mut End,
+    undelivered: &mut VecDeque<Message>,
+    delivered: &mut Vec<Message>,
+    frame: Frame,
+) -> Result<bool, NoMemory>
     requires ready { spec.is_ready end.old.side end.old.limits end.old.past ≡ true }
     requires fault { spec.take_fault end.old.side end.old.limits end.old.past frame ≡ None }
+    requires first { StandsFirst (message_brought end.old.side end.old.limits end.old.past frame) undelivered.old.items }
     requires kept { delivered.old.items ≡ messages_delivered end.old.side end.old.limits end.old.past }
     ensures added { OnOk result (end.new ≡ record end.old { past = events.Take frame ∷ end.old.past; prepared = None }) }
     ensures delivered { OnOk result (delivered.new.items ≡ messages_delivered end.new.side end.new.limits end.new.past) }
+    ensures left { OnOk result (undelivered.new.items ≡ still_undelivered (message_brought end.old.side end.old.limits end.old.past frame) undelivered.old.items) }
     ensures newest { IfOk result (λ ends. newest_in ends delivered.new.items ≡ message_brought end.old.side end.old.limits end.old.past frame) }
     ensures same { OnErr result (end.new ≡ end.old) }
+    ensures left_same { OnErr result (undelivered.new.items ≡ undelivered.old.items) }
     ensures none { OnErr result (delivered.new.items ≡ delivered.old.items) }
 {
     delivered.reserve(1)?;
     match end.take(frame) {
         Ok(None) => Ok(false),
-        Ok(Some(message)) => {
+        Ok(Some(_)) => {
+            let Some(message) = undelivered.pop_front() else {
+                unreachable!();
+            };
             delivered.push_reserved(message);
             Ok(true)
         }
@@ -233,7 +262,7 @@ pub fn act(
         return Ok(Step::Nothing);
     }
     match choice {
-        Choice::Submit(_, message) => own.submit(message),
+        Choice::Submit(_, message) => own.submit(peer, message),
         Choice::Drive(_) => own.drive(peer, link_cut),
         Choice::Carry(_) => own.carry(link_cut),
         Choice::Cut(_) => {
