@@ -2,6 +2,7 @@
 use Rattle.std.specs.Prelude.{◌≡◌, ℕ, zero, suc, ◌+◌, ◌*◌, ◌^◌, ◌==◌, nat_lt, nat_le, not, ◌||◌, ◌&&◌, Bool, true, false, Option, Some, None, Result, Ok, Err, List, [], ◌∷◌, ◌++◌, length, drop, if◌then◌else◌}
 use Rattle.std.specs.Int.{w16, w32, w64, to_le_bytes}
 use Rattle.std.specs.List.{flat_map}
+use Rattle.file_messages.specs.declared.layout.TheConstants.{GROUP_SIZE}
 use Rattle.smbd_base.specs.Fields.{u16_at, u32_at}
 use Rattle.buffer_descriptor.specs.declared.descriptor.Descriptor.{Descriptor}
 use Rattle.buffer_descriptor.specs.Descriptors.{place_after, fields_of, descriptor_bytes}
@@ -100,7 +101,7 @@ counts_well bytes = if lists_descriptors bytes then is_count (u16_at 20 bytes) e
 abbrev pub has_length : List ℕ → Request → Bool
 has_length bytes r =
     if r.op == END then r.length == 0
-    else nat_le 1 r.length && nat_le r.length 65536
+    else nat_le 1 r.length && nat_le r.length GROUP_SIZE
     && (if lists_descriptors bytes then are_sound r.descriptors && sum_of_lengths r.descriptors == r.length
     else not (r.op == WRITE) || length r.inline == r.length)
 

@@ -1,5 +1,7 @@
 -- The requests of a put and of a get of some bytes, and the replies to them (this project's own).
 use Rattle.std.specs.Prelude.{ℕ, zero, suc, ◌+◌, ◌-◌, ◌*◌, ◌/◌, ◌%◌, ◌==◌, Bool, true, false, List, [], ◌∷◌, ◌++◌, length, take, drop, map, if◌then◌else◌}
+use Rattle.smbd_base.specs.declared.token.TheConstants.{PAGE_SIZE}
+use Rattle.file_messages.specs.declared.layout.TheConstants.{GROUP_SIZE}
 use Rattle.smbd_base.specs.Tokens.{number_of}
 use Rattle.buffer_descriptor.specs.declared.descriptor.Descriptor.{Descriptor}
 use Rattle.file_messages.specs.declared.kind.Channel.{Channel}
@@ -21,10 +23,10 @@ parts_of_size size bytes = parts_from ((length bytes + (size - 1)) / size) size 
 
 -- what one request carries, and what one page holds
 abbrev pub groups_of : List ℕ → List (List ℕ)
-groups_of bytes = parts_of_size 65536 bytes
+groups_of bytes = parts_of_size GROUP_SIZE bytes
 
 abbrev pub pages_of : List ℕ → List (List ℕ)
-pages_of group = parts_of_size 4096 group
+pages_of group = parts_of_size PAGE_SIZE group
 
 -- ---- pages. A pool of so many pages has w windows of 16 pages, and the k-th request, from 1, uses one of them.
 
@@ -43,7 +45,7 @@ turn_of w k = (k - 1) / w
 -- the descriptor of a page loaded with so many bytes for the time after so many loads
 abbrev pub descriptor_of_load : ℕ → ℕ → ℕ → Descriptor
 descriptor_of_load page before len = record {
-  offset = page * 4096;
+  offset = page * PAGE_SIZE;
   token = number_of (record { page = page; generation = before + 1 });
   length = len;
 }
@@ -111,15 +113,15 @@ put_requests channel pages ended bytes =
 
 abbrev pub read_descriptors : ℕ → ℕ → ℕ → List Descriptor
 read_descriptors zero i k = []
-read_descriptors (suc count) i k = descriptor_of_load i (k - 1) 4096 ∷ read_descriptors count (i + 1) k
+read_descriptors (suc count) i k = descriptor_of_load i (k - 1) PAGE_SIZE ∷ read_descriptors count (i + 1) k
 
 abbrev pub read_of : Channel → ℕ → Request
 read_of channels.None k = record {
   op = READ;
   channel = 0;
   id = k;
-  offset = 65536 * (k - 1);
-  length = 65536;
+  offset = GROUP_SIZE * (k - 1);
+  length = GROUP_SIZE;
   descriptors = [];
   inline = [];
 }
@@ -127,8 +129,8 @@ read_of channels.V1 k = record {
   op = READ;
   channel = 1;
   id = k;
-  offset = 65536 * (k - 1);
-  length = 65536;
+  offset = GROUP_SIZE * (k - 1);
+  length = GROUP_SIZE;
   descriptors = read_descriptors 16 0 k;
   inline = [];
 }
@@ -139,7 +141,7 @@ reads_from channel zero k = []
 reads_from channel (suc count) k = read_of channel k ∷ reads_from channel count (k + 1)
 
 abbrev pub reads_count : List ℕ → ℕ
-reads_count bytes = length bytes / 65536 + 1
+reads_count bytes = length bytes / GROUP_SIZE + 1
 
 abbrev pub get_requests : Channel → List ℕ → List Request
 get_requests channel bytes =

@@ -1,5 +1,6 @@
 -- Which requests and replies are written so that they are read back (this project's own).
 use Rattle.std.specs.Prelude.{◌≡◌, ℕ, ◌+◌, ◌^◌, ◌==◌, ◌<◌, ◌≤◌, ◌&&◌, Bool, true, false, Ok, List, [], ◌∷◌, length, ◌⊎◌}
+use Rattle.file_messages.specs.declared.layout.TheConstants.{GROUP_SIZE}
 use Rattle.buffer_descriptor.specs.declared.descriptor.Descriptor.{Descriptor}
 use Rattle.file_messages.specs.declared.message.Request.{Request}
 use Rattle.file_messages.specs.declared.message.Reply.{Reply}
@@ -16,7 +17,7 @@ pub record HasPlace (id offset : ℕ) : Type 0 where
 -- so many bytes as a request may carry or ask for
 pub record IsLength (len : ℕ) : Type 0 where
   pub some : 1 ≤ len
-  pub few : len ≤ 65536
+  pub few : len ≤ GROUP_SIZE
 
 abbrev pub TokensFit : List Descriptor → Type 0
 TokensFit [] = Unit {0}

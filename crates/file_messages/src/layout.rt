@@ -18,8 +18,8 @@ pub const NO_CHANNEL: u16 = 0;
 /// The channel of requests that name their bytes by descriptors (SMB2_CHANNEL_RDMA_V1).
 pub const RDMA_V1: u16 = 1;
 
-/// The most bytes that a request writes or asks for.
-pub const MOST_BYTES: u32 = 65_536;
+/// The bytes of a group: the most that a request writes or asks for.
+pub const GROUP_SIZE: u32 = 65_536;
 
 /// The most descriptors that a request names.
 pub const MOST_DESCRIPTORS: u16 = 16;

@@ -20,7 +20,7 @@ pub use fault::{FileFault, ReplyFault};
 pub use job::{Completion, Job, Work, WorkResult};
 pub use kind::{Channel, CopyKind};
 pub use laws::{requests_of_copies_are_read, written_replies_are_read, written_requests_are_read};
-pub use layout::{END, READ, REPLY, WRITE};
+pub use layout::{END, GROUP_SIZE, READ, REPLY, WRITE};
 pub use message::{Asked, Reply, Request};
 pub use reading::{read_reply, read_request, reply_fault, request_fault};
 pub use worked::{worked_copies, worked_messages};

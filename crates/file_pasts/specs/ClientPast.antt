@@ -1,6 +1,7 @@
 -- What happened at a client's machine: the calls that it had and what it answered. A past is a list of these, the newest
 -- first.
 use Rattle.std.specs.Prelude.{◌≡◌, ℕ, ◌+◌, ◌*◌, ◌/◌, ◌%◌, ◌==◌, ◌≤◌, Bool, true, false, is_some, Option, Some, None, Result, Ok, Err, List, [], ◌∷◌, ◌++◌, length, drop, if◌then◌else◌}
+use Rattle.smbd_base.specs.declared.token.TheConstants.{PAGE_SIZE}
 use Rattle.smbd_base.specs.Tokens.{PageToken}
 use Rattle.buffer_descriptor.specs.declared.descriptor.Descriptor.{Descriptor}
 use Rattle.file_messages.specs.declared.fault.FileFault.{FileFault}
@@ -204,10 +205,10 @@ unloads_on page (Received bytes ∷ past) = unloads_on page past
 
 -- a result of the job's kind, which is no refusal
 abbrev pub IsOfKind : Work → WorkResult → Type 0
-IsOfKind (Load page right bytes) (Loaded d) = (d.offset ≡ page * 4096) × ((token_of_descriptor d).page ≡ page) × (256 ≤ d.token) × (d.length ≡ length bytes)
+IsOfKind (Load page right bytes) (Loaded d) = (d.offset ≡ page * PAGE_SIZE) × ((token_of_descriptor d).page ≡ page) × (256 ≤ d.token) × (d.length ≡ length bytes)
 IsOfKind (Fetch d) (Fetched bytes) = length bytes ≡ d.length
 IsOfKind (Place d bytes) Placed = Unit {0}
-IsOfKind (Unload token) (Unloaded bytes) = length bytes ≡ 4096
+IsOfKind (Unload token) (Unloaded bytes) = length bytes ≡ PAGE_SIZE
 IsOfKind work result = ⊥
 
 -- a completion answers an open job by the job's kind

@@ -1,6 +1,8 @@
 -- What is due at the client of a get, by all that happened there. A READ is round k where it is the k-th request; with
 -- registered pages each round has 32 jobs, 16 Loads and then 16 Unloads, and they are numbered round by round.
 use Rattle.std.specs.Prelude.{◌≡◌, ℕ, zero, suc, ◌+◌, ◌-◌, ◌*◌, ◌==◌, nat_le, not, ◌&&◌, ◌||◌, Bool, false, Option, Some, None, option_map, List, [], ◌∷◌, ◌++◌, length, take, drop, slice_get, replicate, if◌then◌else◌}
+use Rattle.smbd_base.specs.declared.token.TheConstants.{PAGE_SIZE}
+use Rattle.file_messages.specs.declared.layout.TheConstants.{GROUP_SIZE}
 use Rattle.smbd_base.specs.Fields.{u32_at}
 use Rattle.smbd_base.specs.declared.right.Right.TheVariants as right
 use Rattle.buffer_descriptor.specs.declared.descriptor.Descriptor.{Descriptor}
@@ -76,13 +78,13 @@ sent past = length (requests_sent past)
 
 -- the count of the last reply
 abbrev pub last_count : List ℕ → ℕ
-last_count [] = 65536
+last_count [] = GROUP_SIZE
 last_count (n ∷ []) = n
 last_count (n ∷ (m ∷ ns)) = last_count (m ∷ ns)
 
 -- the last READ gave its whole length, or there was none
 abbrev pub goes_on : List ClientEvent → Bool
-goes_on past = last_count (counts_taken past) == 65536
+goes_on past = last_count (counts_taken past) == GROUP_SIZE
 
 abbrev pub has_ended : List Request → Bool
 has_ended [] = false
@@ -107,7 +109,7 @@ read_request channel k offset descriptors = record {
   channel = channel;
   id = k;
   offset = offset;
-  length = 65536;
+  length = GROUP_SIZE;
   descriptors = descriptors;
   inline = [];
 }
@@ -131,7 +133,7 @@ next_request channel past =
 -- the Loads of so many pages from the i-th on, for the server to place in
 abbrev pub page_loads : ℕ → ℕ → List Work
 page_loads zero i = []
-page_loads (suc count) i = Load i right.Place (replicate 4096 0) ∷ page_loads count (i + 1)
+page_loads (suc count) i = Load i right.Place (replicate PAGE_SIZE 0) ∷ page_loads count (i + 1)
 
 -- the last page of a round is unloaded by this completion, and the round gave its whole length
 abbrev pub begins_round : List ClientEvent → Bool

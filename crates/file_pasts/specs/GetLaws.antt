@@ -1,5 +1,6 @@
 -- A get asks for the READs of its bytes, in order, and END after them.
 use Rattle.std.specs.Prelude.{◌≡◌, ℕ, ◌<◌, Some, List, [], ◌∷◌, ◌++◌, map, replicate, slice_get}
+use Rattle.smbd_base.specs.declared.token.TheConstants.{PAGE_SIZE}
 use Rattle.smbd_base.specs.declared.right.Right.TheVariants as right
 use Rattle.buffer_descriptor.specs.declared.descriptor.Descriptor.{Descriptor}
 use Rattle.file_messages.specs.declared.job.Work.{Work}
@@ -45,7 +46,7 @@ RegisteredGetsAsk = (bytes : List ℕ) (past : List ClientEvent) → IsCopyable 
 -- a Load of zeros for the server to place in, or an Unload
 abbrev pub IsGetJob : Work → Type 0
 IsGetJob (Load page right.Fetch bytes) = ⊥
-IsGetJob (Load page right.Place bytes) = (page < 16) × (bytes ≡ replicate 4096 0)
+IsGetJob (Load page right.Place bytes) = (page < 16) × (bytes ≡ replicate PAGE_SIZE 0)
 IsGetJob (Fetch d) = ⊥
 IsGetJob (Place d bytes) = ⊥
 IsGetJob (Unload t) = Unit {0}
@@ -60,7 +61,7 @@ JobsAreOfAGet = (past : List ClientEvent) → IsGet channels.V1 past → AreGetJ
 -- the load of a page after so many has the descriptor by which the READ of that round names it
 abbrev pub LoadsOwnRounds : Type 0
 LoadsOwnRounds = (page turn : ℕ) (d : Descriptor) (past : List ClientEvent) → IsGet channels.V1 past → HasPoolTokens past
-    → slice_get (descriptors_on page past) turn ≡ Some d → d ≡ descriptor_of_load page turn 4096
+    → slice_get (descriptors_on page past) turn ≡ Some d → d ≡ descriptor_of_load page turn PAGE_SIZE
 
 -- only tokens of READs that were replied to are unloaded
 abbrev pub GetUnloadsFollow : Type 0

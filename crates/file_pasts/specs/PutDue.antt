@@ -1,5 +1,6 @@
 -- What is due at the client of a put, by all that happened there.
 use Rattle.std.specs.Prelude.{◌≡◌, ℕ, ◌+◌, ◌-◌, ◌/◌, ◌%◌, ◌==◌, ◌≤◌, nat_lt, nat_le, not, ◌&&◌, Bool, true, Option, Some, None, option_map, option_to_list, List, [], ◌∷◌, ◌++◌, length, take, map, slice_get, if◌then◌else◌}
+use Rattle.file_messages.specs.declared.layout.TheConstants.{GROUP_SIZE}
 use Rattle.smbd_base.specs.declared.right.Right.TheVariants as right
 use Rattle.buffer_descriptor.specs.declared.descriptor.Descriptor.{Descriptor}
 use Rattle.file_messages.specs.declared.kind.Channel.{Channel}
@@ -178,7 +179,7 @@ has_room s past =
 -- no group was shorter than 65,536 bytes
 abbrev pub are_whole : List (List ℕ) → Bool
 are_whole [] = true
-are_whole (group ∷ groups) = length group == 65536 && are_whole groups
+are_whole (group ∷ groups) = length group == GROUP_SIZE && are_whole groups
 
 -- a group may be handed in
 abbrev pub wants_group : Setup → List ClientEvent → Bool
@@ -191,7 +192,7 @@ is_finished past = length (requests_sent past) == length (groups_in past) + 1 &&
 -- ---- a lawful past: what was handed in was asked for, and what was given was due
 
 abbrev pub Follows : Setup → ClientEvent → List ClientEvent → Type 0
-Follows s (Group bytes) past = (wants_group s past ≡ true) × (1 ≤ length bytes) × (length bytes ≤ 65536)
+Follows s (Group bytes) past = (wants_group s past ≡ true) × (1 ≤ length bytes) × (length bytes ≤ GROUP_SIZE)
 Follows s End past = Unit {0}
 Follows s (Sent r) past = next_request s past ≡ Some r
 Follows s (Replied m) past = Unit {0}

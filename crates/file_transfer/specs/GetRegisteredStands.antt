@@ -1,5 +1,6 @@
 -- How a get over registered pages stands after its past.
 use Rattle.std.specs.Prelude.{ℕ, ◌*◌, ◌<◌, ◌==◌, nat_le, ◌||◌, Bool, List, [], length, if◌then◌else◌}
+use Rattle.file_messages.specs.declared.layout.TheConstants.{GROUP_SIZE}
 use Rattle.file_messages.specs.declared.kind.Channel.TheVariants as channels
 use Rattle.file_messages.specs.declared.job.Completion.{Completion}
 use Rattle.file_messages.specs.declared.job.Work.{Work}
@@ -17,7 +18,7 @@ are_back completed sent = sent == 0 || nat_le (32 * sent) completed
 
 -- the Loads that come due after a READ of this count
 abbrev pub loads_after : ℕ → List Work → List Work
-loads_after count works = if count == 65536 then works else []
+loads_after count works = if count == GROUP_SIZE then works else []
 
 pub record RegisteredGetStands (past : List ClientEvent) (q : GetRequests) (g : GetGroups) (r : GetRounds) : Type 0 where
   pub requests : GetStands channels.V1 past q

@@ -3,6 +3,7 @@ use Rattle.std.specs.Prelude.{◌≡◌, ℕ, ◌+◌, ◌*◌, ◌<◌, ◌≤�
 use Rattle.std.specs.VecDeque.{deque_len, deque_capacity}
 use Rattle.std.specs.declared.vec.Vec.{Vec}
 use Rattle.std.specs.declared.alloc.Global.{Global}
+use Rattle.file_messages.specs.declared.layout.TheConstants.{GROUP_SIZE}
 use Rattle.file_messages.specs.declared.kind.Channel.{Channel}
 use Rattle.file_messages.specs.declared.kind.Channel.TheVariants as channels
 use Rattle.file_messages.specs.declared.message.Request.{Request}
@@ -49,7 +50,7 @@ awaits channels.V1 past = not (has_ended (requests_sent past)) && nat_lt (jobs_c
 -- room for the bytes of a group
 abbrev pub IsRoom : Option (Vec ℕ Global) → Type 0
 IsRoom None = ⊥
-IsRoom (Some room) = (room.items ≡ []) × (vec_len room ≡ 0) × (65536 ≤ vec_capacity room)
+IsRoom (Some room) = (room.items ≡ []) × (vec_len room ≡ 0) × (GROUP_SIZE ≤ vec_capacity room)
 
 -- room for a group, and a place behind those that came
 pub record HasRoom (g : GetGroups) : Type 0 where

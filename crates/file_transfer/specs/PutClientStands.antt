@@ -1,5 +1,6 @@
 -- How the client's machine of a put stands after its past.
 use Rattle.std.specs.Prelude.{◌≡◌, ℕ, ◌<◌, ◌≤◌, true, List, length, map}
+use Rattle.file_messages.specs.declared.layout.TheConstants.{GROUP_SIZE}
 use Rattle.file_messages.specs.declared.job.Completion.{Completion}
 use Rattle.file_pasts.specs.ClientPast.{ClientEvent, Group, requests_sent, answers, AnswersJob}
 use Rattle.file_pasts.specs.PutDue.{Setup, IsPut, Follows, wants_group}
@@ -71,7 +72,7 @@ pub record MayHand (m : PutClient) (bytes : List ℕ) : Type 0 where
   pub came : CameBy setup past m
   pub wanted : wants_group setup past ≡ true
   pub some : 1 ≤ length bytes
-  pub short : length bytes ≤ 65536
+  pub short : length bytes ≤ GROUP_SIZE
 
 -- a completion answers a job that was given and is not completed
 pub record MayComplete (m : PutClient) (c : Completion) : Type 0 where

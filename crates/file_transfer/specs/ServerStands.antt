@@ -2,6 +2,7 @@
 use Rattle.std.specs.Prelude.{◌≡◌, ℕ, ◌+◌, ◌-◌, ◌*◌, ◌<◌, ◌≤◌, Bool, true, false, Option, Some, None, Result, Ok, Err, IsOk, List, [], ◌∷◌, ◌++◌, length, drop}
 use Rattle.std.specs.VecDeque.{deque_len, deque_capacity}
 use Rattle.std.specs.Vec.{vec_capacity}
+use Rattle.file_messages.specs.declared.layout.TheConstants.{GROUP_SIZE}
 use Rattle.file_messages.specs.declared.kind.CopyKind.{CopyKind}
 use Rattle.file_messages.specs.declared.fault.FileFault.{FileFault}
 use Rattle.file_messages.specs.declared.fault.FileFault.TheVariants.{NoMemory}
@@ -34,7 +35,7 @@ pub record IsInTurn (kind : CopyKind) (past : List ServerEvent) : Type 0 where
   pub before : jobs_in_hand past ≤ jobs_given past
   pub given : jobs_given past ≤ 16 * length (replies past) + jobs_in_hand past
   pub ahead : (n : ℕ) → jobs_given past ≤ n → result_at n past ≡ None
-  pub counts : counted (replies past) ≤ 65536 * length (replies past)
+  pub counts : counted (replies past) ≤ GROUP_SIZE * length (replies past)
   pub read : AreAsked (requests kind past).accepted
   pub fitting : AreFitting (jobs_due kind past) (outcomes_so_far kind past)
 

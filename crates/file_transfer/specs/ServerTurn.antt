@@ -1,6 +1,7 @@
 -- The request that a server handles: its jobs, what came of them, and what is to be replied.
 use Rattle.std.specs.Prelude.{◌≡◌, ℕ, ◌+◌, ◌-◌, ◌==◌, ◌≤◌, ◌&&◌, ◌||◌, not, Bool, true, false, Option, Some, None, option_map, option_to_list, List, [], ◌∷◌, length, map, if◌then◌else◌}
 use Rattle.std.specs.Vec.{vec_capacity}
+use Rattle.file_messages.specs.declared.layout.TheConstants.{GROUP_SIZE}
 use Rattle.buffer_descriptor.specs.declared.descriptor.Descriptor.{Descriptor}
 use Rattle.file_messages.specs.declared.kind.CopyKind.{CopyKind}
 use Rattle.file_messages.specs.declared.message.Request.{Request}
@@ -77,7 +78,7 @@ is_fetched r = r.op == WRITE && not (r.channel == 0)
 -- what every request has that bytes say
 pub record IsRequest (r : Request) : Type 0 where
   pub op : r.op ≤ 3
-  pub short : r.length ≤ 65536
+  pub short : r.length ≤ GROUP_SIZE
   pub few : length r.descriptors ≤ 16
   pub some : is_fetched r ≡ true → 1 ≤ length r.descriptors
   pub plain : (r.op == WRITE && r.channel == 0) ≡ true → r.descriptors ≡ []

@@ -3,6 +3,7 @@
 ghost use Rattle.std.specs.Prelude.{◌≡◌, ◌+◌, ◌<◌, ◌≤◌, ◌++◌, false, List, [], take, length, map, OnOk, vec_len, vec_capacity};
 ghost use Rattle.std.specs.List.{flat_map};
 ghost use Rattle.std.specs.VecDeque.{deque_len, deque_capacity};
+ghost use Rattle.file_messages.specs.declared.layout.TheConstants.{GROUP_SIZE};
 ghost use Rattle.file_messages.specs.declared.kind.Channel.{Channel};
 ghost use Rattle.file_pasts.specs.ClientPast.{ClientEvent, has_failed};
 ghost use Rattle.file_pasts.specs.GetDue.{some_bytes, next_group};
@@ -10,12 +11,10 @@ ghost use Rattle.file_transfer.specs.GetPagesStand.{back_in, same_bytes, sizes};
 ghost use Rattle.file_transfer.specs.GetStands.{GroupsStand, HasRoom, after_receiving};
 
 use crate::get_pages::Page;
+use file_messages::GROUP_SIZE;
 use smbd_base::{Message, NoMemory};
 use std::alloc::Global;
 use std::collections::VecDeque;
-
-/// The most bytes of a group.
-const GROUP: usize = 65_536;
 
 /// The groups that came and were not given.
 #[derive(Drop)]
@@ -41,13 +40,13 @@ impl GetGroups {
         ensures same { self.new.came.items ≡ self.old.came.items }
     {
         self.came.reserve(1)?;
-        self.room = Some(Vec::with_capacity(alloc, GROUP)?);
+        self.room = Some(Vec::with_capacity(alloc, GROUP_SIZE as usize)?);
         Ok(())
     }
 
     /// The bytes of the group that was asked for came.
     pub fn take(&mut self, bytes: &[u8])
-        requires short { length bytes.now ≤ 65536 }
+        requires short { length bytes.now ≤ GROUP_SIZE }
         requires room { HasRoom self.old }
         ensures { self.new.came.items ≡ self.old.came.items ++ some_bytes bytes.now }
     {
@@ -61,7 +60,7 @@ impl GetGroups {
     /// The pages of the group that was asked for are back: so many bytes of what is in them came.
     pub fn take_pages(&mut self, slots: &Vec<Page>, count: usize)
         requires room { HasRoom self.old }
-        requires short { sizes (map back_in slots.now.items) ≤ 65536 }
+        requires short { sizes (map back_in slots.now.items) ≤ GROUP_SIZE }
         ensures { self.new.came.items ≡ self.old.came.items ++ some_bytes (take count (flat_map same_bytes (map back_in slots.now.items))) }
     {
         let Some(room) = self.room.take() else {

@@ -1,6 +1,7 @@
 //! The registered pages of a get: each round loads 16 pages, which its READ names, and unloads them again.
 
 ghost use Rattle.std.specs.Prelude.{◌≡◌, ◌<◌, ◌≤◌, ◌%◌, ℕ, true, false, List, [], ◌∷◌, Option, None, Some, IfOk, OnOk, OnErr, option_map, length, map, replicate, slice_set};
+ghost use Rattle.smbd_base.specs.declared.token.TheConstants.{PAGE_SIZE};
 ghost use Rattle.file_messages.specs.declared.kind.Channel.TheVariants as channels;
 ghost use Rattle.file_pasts.specs.ClientPast.{ClientEvent, Completed, AnswersJob};
 ghost use Rattle.file_pasts.specs.GetDue.{IsGet, sent, page_loads};
@@ -12,7 +13,7 @@ use crate::loaded_page::LoadedPage;
 use crate::messages::share;
 use buffer_descriptor::Descriptor;
 use file_messages::{Completion, Work, WorkResult};
-use smbd_base::{Message, NoMemory, Right};
+use smbd_base::{Message, NoMemory, PAGE_SIZE, Right};
 use std::alloc::Global;
 use std::collections::VecDeque;
 
@@ -20,7 +21,7 @@ use std::collections::VecDeque;
 pub const PAGES: usize = 16;
 
 /// The bytes of a page.
-const PAGE: usize = 4_096;
+const PAGE: usize = PAGE_SIZE as usize;
 
 /// A page.
 #[derive(Drop)]
@@ -48,7 +49,7 @@ pub fn loads_of_next(alloc: Global) -> Result<VecDeque<Work>, NoMemory>
 }
 
 fn page_of_zeros(alloc: Global) -> Result<Message, NoMemory>
-    ensures { IfOk result (λ page. page ≡ replicate 4096 0) }
+    ensures { IfOk result (λ page. page ≡ replicate PAGE_SIZE 0) }
 {
     Message::copy_of(alloc, &[0; PAGE])
 }

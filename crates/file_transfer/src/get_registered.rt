@@ -1,6 +1,7 @@
 //! The rounds of a get over registered pages: 16 Loads, a READ that names them, its reply, and 16 Unloads.
 
 ghost use Rattle.std.specs.Prelude.{◌≡◌, ◌+◌, ◌*◌, ◌<◌, ◌≤◌, ◌==◌, ◌++◌, false, ℕ, List, [], ◌∷◌, Option, None, IfOk, OnOk, OnErr, option_map, length, map};
+ghost use Rattle.file_messages.specs.declared.layout.TheConstants.{GROUP_SIZE};
 ghost use Rattle.file_messages.specs.declared.kind.Channel.TheVariants as channels;
 ghost use Rattle.file_messages.specs.declared.job.Work.{Work};
 ghost use Rattle.file_messages.specs.Messages.{request_bytes};
@@ -15,9 +16,9 @@ ghost use Rattle.file_transfer.specs.GetRegisteredStands.{RegisteredGetStands, M
 use crate::client_jobs::Jobs;
 use crate::get_groups::GetGroups;
 use crate::get_pages::{PAGES, Page, all_loaded, loads_of_next, note, unused};
-use crate::get_requests::{GetRequests, READ_LENGTH};
+use crate::get_requests::GetRequests;
 use crate::loaded_page::LoadedPage;
-use file_messages::{Channel, Completion, Job, Work};
+use file_messages::{Channel, Completion, GROUP_SIZE, Job, Work};
 use smbd_base::{Message, NoMemory};
 use std::alloc::Global;
 use std::collections::VecDeque;
@@ -138,13 +139,13 @@ pub fn completed(
 
 /// The next round begins, if the READ gave its whole length.
 fn begin_next(rounds: &mut GetRounds, count: u32)
-    requires { count ≡ 65536 → length rounds.old.next_loads.items ≤ rounds.old.jobs.kept }
+    requires { count ≡ GROUP_SIZE → length rounds.old.next_loads.items ≤ rounds.old.jobs.kept }
     ensures kept { rounds.new.jobs.kept + length (loads_after count rounds.old.next_loads.items) ≡ rounds.old.jobs.kept }
     ensures jobs { (came_due : List Work) (past : List ClientEvent) → JobsStand came_due past rounds.old.jobs
         → JobsStand (came_due ++ loads_after count rounds.old.next_loads.items) past rounds.new.jobs }
     ensures same { (rounds.new.slots ≡ rounds.old.slots) × (rounds.new.completed ≡ rounds.old.completed) }
 {
-    if count == READ_LENGTH {
+    if count == GROUP_SIZE {
         rounds.jobs.add_all(&mut rounds.next_loads);
     }
 }

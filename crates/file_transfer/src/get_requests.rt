@@ -10,12 +10,9 @@ ghost use Rattle.file_transfer.specs.GetStands.{GetStands, IsOfAGet, may_ask as 
 use crate::client_requests::{ClientRequests, Unanswered};
 use crate::loaded_page::LoadedPage;
 use crate::writing::write_over_pages;
-use file_messages::{Asked, Channel, READ, ReplyFault};
+use file_messages::{Asked, Channel, GROUP_SIZE, READ, ReplyFault};
 use smbd_base::{Message, NoMemory, u32_at};
 use std::alloc::Global;
-
-/// The bytes that each READ asks for.
-pub const READ_LENGTH: u32 = 65_536;
 
 /// The requests of a get that were given, and what their replies told.
 #[derive(Drop)]
@@ -37,7 +34,7 @@ impl GetRequests {
         GetRequests {
             asked: ClientRequests::new(alloc),
             offset: 0,
-            last: READ_LENGTH,
+            last: GROUP_SIZE,
             end_sent: false,
         }
     }
@@ -67,7 +64,7 @@ impl GetRequests {
     pub fn goes_on(&self) -> bool
         ensures { (channel : Channel) (past : List ClientEvent) → GetStands channel past self.now → result ≡ goes_on_by past }
     {
-        self.last == READ_LENGTH
+        self.last == GROUP_SIZE
     }
 
     /// No reply was refused, END was not given, and each request has its reply.
@@ -95,7 +92,7 @@ impl GetRequests {
             op: READ,
             channel: channel.number(),
             id: self.asked.sent() + 1,
-            length: READ_LENGTH,
+            length: GROUP_SIZE,
         };
         let message = write_over_pages(alloc, &asked, self.offset, pages.as_slice())?;
         self.asked.reserve()?;

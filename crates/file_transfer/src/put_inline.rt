@@ -1,6 +1,7 @@
 //! The groups of a put without registered pages: each travels in its WRITE.
 
 ghost use Rattle.std.specs.Prelude.{◌≡◌, ◌+◌, ◌-◌, ◌^◌, ◌<◌, ◌≤◌, ◌%◌, ℕ, List, [], ◌∷◌, Option, None, Some, IfOk, OnOk, OnErr, option_map, length};
+ghost use Rattle.file_messages.specs.declared.layout.TheConstants.{GROUP_SIZE};
 ghost use Rattle.file_messages.specs.Messages.{request_bytes};
 ghost use Rattle.file_pasts.specs.ClientPast.{ClientEvent, Group, groups_in, requests_sent};
 ghost use Rattle.file_pasts.specs.PutDue.{next_request};
@@ -45,7 +46,7 @@ impl InlineGroups {
 
     /// Takes the next group: its bytes are copied once, into the WRITE.
     pub fn hand(&mut self, alloc: Global, bytes: &[u8]) -> Result<(), NoMemory>
-        requires short { length bytes.now ≤ 65536 }
+        requires short { length bytes.now ≤ GROUP_SIZE }
         requires counted { self.old.count < 2 ^ 40 }
         requires fits { self.old.bytes < 2 ^ 60 }
         ensures taken { (past : List ClientEvent) → InlineStands past self.old → length (requests_sent past) ≤ length (groups_in past)

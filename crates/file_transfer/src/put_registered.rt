@@ -1,6 +1,7 @@
 //! The groups of a put over registered pages: each is cut into the parts of its pages, which its WRITE names.
 
 ghost use Rattle.std.specs.Prelude.{◌≡◌, ◌+◌, ◌*◌, ◌%◌, ◌<◌, ◌≤◌, ◌++◌, ℕ, false, List, [], ◌∷◌, Option, None, Some, IfOk, OnOk, OnErr, IfSome, IsNone, option_map, length, drop, map};
+ghost use Rattle.file_messages.specs.declared.layout.TheConstants.{GROUP_SIZE};
 ghost use Rattle.file_messages.specs.declared.job.Work.{Work};
 ghost use Rattle.file_messages.specs.declared.job.WorkResult.TheVariants.{Loaded, Unloaded};
 ghost use Rattle.file_messages.specs.Messages.{request_bytes};
@@ -22,12 +23,12 @@ use crate::put_requests::PutRequests;
 use crate::writing::write_over_pages;
 use buffer_descriptor::Descriptor;
 use file_messages::{Asked, Completion, Job, WRITE, Work, WorkResult};
-use smbd_base::{Message, NoMemory, Right};
+use smbd_base::{Message, NoMemory, PAGE_SIZE, Right};
 use std::alloc::Global;
 use std::collections::VecDeque;
 
 /// The bytes of a page, and the pages of a group.
-const PAGE: usize = 4_096;
+const PAGE: usize = PAGE_SIZE as usize;
 
 const WINDOW: usize = 16;
 
@@ -212,7 +213,7 @@ fn load_next(jobs: &mut Jobs, page: u8, part: Option<Message>)
 
 /// The bytes of a group, page by page.
 fn cut(alloc: Global, bytes: &[u8]) -> Result<VecDeque<Message>, NoMemory>
-    requires { length bytes.now ≤ 65536 }
+    requires { length bytes.now ≤ GROUP_SIZE }
     ensures { IfOk result (λ parts. parts.items ≡ pages_of bytes.now) }
 {
     let mut parts = VecDeque::with_capacity(alloc, WINDOW)?;

@@ -2,6 +2,7 @@
 
 ghost use Rattle.std.specs.Prelude.{◌≡◌, ◌==◌, ◌&&◌, ◌+◌, ◌^◌, ◌<◌, ◌≤◌, ℕ, Bool, true, false, List, [], ◌∷◌, Option, None, Some, IfOk, OnOk, OnErr, IfSome, IsNone, option_map, map, length, drop};
 ghost use Rattle.std.specs.VecDeque.{deque_len, deque_capacity};
+ghost use Rattle.file_messages.specs.declared.layout.TheConstants.{GROUP_SIZE};
 ghost use Rattle.file_messages.specs.declared.message.Request.{Request};
 ghost use Rattle.file_messages.specs.Messages.{request_bytes, reply_of};
 ghost use Rattle.file_pasts.specs.ClientPast.{ClientEvent, Group, End, Sent, Replied, groups_in, requests_sent, reply_fault as refusal_of, answers, has_failed, fault_of_reading};
@@ -11,12 +12,9 @@ ghost use Rattle.file_transfer.specs.PutStands.{RequestsStand, AllSent, takes_gr
 
 use crate::client_requests::{ClientRequests, Unanswered};
 use crate::loaded_page::LoadedPage;
-use file_messages::{END, ReplyFault};
+use file_messages::{END, GROUP_SIZE, ReplyFault};
 use smbd_base::{Message, NoMemory};
 use std::alloc::Global;
-
-/// The bytes of each group but the last.
-const GROUP: usize = 65_536;
 
 /// The requests of a put that were given, and what is known of those to come.
 #[derive(Drop)]
@@ -87,9 +85,9 @@ impl PutRequests {
     }
 
     fn whole_with(&self, count: usize) -> bool
-        ensures { result ≡ (self.now.whole && count == 65536) }
+        ensures { result ≡ (self.now.whole && count == GROUP_SIZE) }
     {
-        self.whole && count == GROUP
+        self.whole && count == GROUP_SIZE as usize
     }
 
     /// No more groups come.

@@ -1,6 +1,7 @@
 //! Replies, written.
 
 ghost use Rattle.std.specs.Prelude.{◌≡◌, ◌<◌, ◌≤◌, [], length, IfOk};
+ghost use Rattle.file_messages.specs.declared.layout.TheConstants.{GROUP_SIZE};
 ghost use Rattle.file_messages.specs.Messages.{reply_bytes, success, refusal};
 ghost use Rattle.file_transfer.specs.ServerTurn.{header_in};
 
@@ -56,7 +57,7 @@ pub(crate) fn reply_of(
     header: ReplyHeader,
     bytes: &[u8],
 ) -> Result<Message, NoMemory>
-    requires { length bytes.now ≤ 65536 }
+    requires { length bytes.now ≤ GROUP_SIZE }
     ensures { IfOk result (λ m. m ≡ reply_bytes (record { op = header.op; status = header.status; id = header.id; count = header.count; inline = bytes.now })) }
 {
     let mut reply = Vec::with_capacity(alloc, HEADER + bytes.len())?;

@@ -1,6 +1,7 @@
 //! The request that a server handles.
 
 ghost use Rattle.std.specs.Prelude.{◌≡◌, ◌≤◌, [], IfOk, OnOk, OnErr, Some, None, length, map};
+ghost use Rattle.file_messages.specs.declared.layout.TheConstants.{GROUP_SIZE};
 ghost use Rattle.buffer_descriptor.specs.declared.descriptor.Descriptor.{Descriptor};
 ghost use Rattle.file_messages.specs.declared.job.Work.{Work};
 ghost use Rattle.file_messages.specs.declared.job.Work.TheVariants.{Fetch};
@@ -117,7 +118,7 @@ impl Turn {
         request: &Request,
         bytes: &[u8],
     ) -> Result<(), NoMemory>
-        requires short { length bytes.now ≤ 65536 }
+        requires short { length bytes.now ≤ GROUP_SIZE }
         requires op { request.now.op ≡ READ }
         ensures same { OnErr result (self.new ≡ self.old) }
         ensures first { self.new.first ≡ self.old.first }
@@ -141,7 +142,7 @@ impl Turn {
 
 /// The reply to a READ that got these bytes.
 fn filled_reply(alloc: Global, request: &Request, bytes: &[u8]) -> Result<Message, NoMemory>
-    requires short { length bytes.now ≤ 65536 }
+    requires short { length bytes.now ≤ GROUP_SIZE }
     requires op { request.now.op ≡ READ }
     ensures { IfOk result (λ m. m ≡ reply_bytes (read_reply request.now bytes.now)) }
 {
