@@ -6,7 +6,7 @@ ghost use Rattle.file_messages.specs.Messages as spec;
 use crate::descriptors::{listed, name_together, overlap};
 use crate::fault::FileFault;
 use crate::layout::{
-    CHANNEL, COUNT, DESCRIPTOR, DESCRIPTOR_COUNT, END, ID, LENGTH, GROUP_SIZE, MOST_DESCRIPTORS,
+    CHANNEL, COUNT, DESCRIPTOR, DESCRIPTOR_COUNT, END, GROUP_SIZE, ID, LENGTH, MOST_DESCRIPTORS,
     NO_CHANNEL, OFFSET, OP, RDMA_V1, READ, REPLY, REPLY_HEADER, REQUEST_HEADER, STATUS, WRITE,
 };
 use crate::message::{Asked, Reply, Request};
