@@ -260,7 +260,7 @@ fn keep(track: &mut Track, outgoing: &mut Outgoing, message: &Message) -> Result
     ensures more { track.old.room ≤ track.new.room }
 {
     track.reserve(2)?;
-    outgoing.keep(message.clone()?)
+    outgoing.keep(message.share()?)
 }
 
 /// Gives the piece that the next frame carries. The first frame of an end carries none.
@@ -310,7 +310,7 @@ fn copied(track: &mut Track, frame: &Frame) -> Result<Frame, NoMemory>
     ensures more { track.old.room ≤ track.new.room }
 {
     track.reserve(2)?;
-    Ok(frame.clone()?)
+    frame.share()
 }
 
 fn no_memory(frame: Frame) -> TakeRefused
@@ -329,7 +329,7 @@ fn due_event(next: &Next) -> Result<Option<Event>, NoMemory>
 {
     match next {
         Next::Post(n) => Ok(Some(Event::Post(*n))),
-        Next::Emit(frame) => Ok(Some(Event::Emit(frame.clone()?))),
+        Next::Emit(frame) => Ok(Some(Event::Emit(frame.share()?))),
         Next::Close | Next::Idle => Ok(None),
     }
 }

@@ -3,7 +3,7 @@
 use smbd_base::{Frame, Right, Token};
 
 /// What a line of a log says, beside whose it is (this project's own). Lengths and places are counted in bytes.
-#[derive(Clone, Debug, Drop)]
+#[derive(Debug, Drop)]
 pub enum LogLine {
     /// So many receives were posted: 1 to 255.
     Post(u16),

@@ -5,8 +5,8 @@ use Rattle.file_messages.specs.declared.message.Request.{Request}
 use Rattle.file_messages.specs.declared.message.Reply.{Reply}
 use Rattle.file_messages.specs.Runs.{put_requests, get_requests, replies_to}
 
-abbrev pub bytes_of : ℕ → List ℕ
-bytes_of n = replicate n 7
+abbrev pub sevens : ℕ → List ℕ
+sevens n = replicate n 7
 
 abbrev pub ids : List Request → List ℕ
 ids rs = map (λ (r : Request). r.id) rs
@@ -22,10 +22,10 @@ counts rs = map (λ (r : Reply). r.count) rs
 
 pub record CopiesSo : Type 0 where
   -- three groups exactly: the fourth READ gets nothing
-  pub get_ids : ids (get_requests channels.V1 (bytes_of 196608)) ≡ 1 ∷ 2 ∷ 3 ∷ 4 ∷ 5 ∷ []
-  pub get_counts : counts (replies_to (bytes_of 196608) (get_requests channels.V1 (bytes_of 196608))) ≡ 65536 ∷ 65536 ∷ 65536 ∷ 0 ∷ 0 ∷ []
+  pub get_ids : ids (get_requests channels.V1 (sevens 196608)) ≡ 1 ∷ 2 ∷ 3 ∷ 4 ∷ 5 ∷ []
+  pub get_counts : counts (replies_to (sevens 196608) (get_requests channels.V1 (sevens 196608))) ≡ 65536 ∷ 65536 ∷ 65536 ∷ 0 ∷ 0 ∷ []
   -- a group and a shorter one
-  pub reads : counts (replies_to (bytes_of 100000) (get_requests channels.None (bytes_of 100000))) ≡ 65536 ∷ 34464 ∷ 0 ∷ []
-  pub read_offsets : offsets (get_requests channels.None (bytes_of 100000)) ≡ 0 ∷ 65536 ∷ 100000 ∷ []
-  pub writes : lengths (put_requests channels.None 64 true (bytes_of 100000)) ≡ 65536 ∷ 34464 ∷ 0 ∷ []
-  pub write_offsets : offsets (put_requests channels.None 64 true (bytes_of 100000)) ≡ 0 ∷ 65536 ∷ 100000 ∷ []
+  pub reads : counts (replies_to (sevens 100000) (get_requests channels.None (sevens 100000))) ≡ 65536 ∷ 34464 ∷ 0 ∷ []
+  pub read_offsets : offsets (get_requests channels.None (sevens 100000)) ≡ 0 ∷ 65536 ∷ 100000 ∷ []
+  pub writes : lengths (put_requests channels.None 64 true (sevens 100000)) ≡ 65536 ∷ 34464 ∷ 0 ∷ []
+  pub write_offsets : offsets (put_requests channels.None 64 true (sevens 100000)) ≡ 0 ∷ 65536 ∷ 100000 ∷ []

@@ -119,7 +119,7 @@ came_replied bytes m past q few c at is = by_fault (reply_fault (answers past) m
       }
 
 -- without registered pages there are no jobs
-no_jobs : (past : List ClientEvent) → IsGet channels.None past → open_jobs past ≡ []
+pub no_jobs : (past : List ClientEvent) → IsGet channels.None past → open_jobs past ≡ []
 no_jobs [] p = refl
 no_jobs (Group b ∷ past) p = absurd p.0
 no_jobs (End ∷ past) p = absurd p.0

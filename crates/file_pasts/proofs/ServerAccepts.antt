@@ -21,16 +21,8 @@ use Rattle.file_pasts.specs.ServerDue.{ServerEvent, Asked, Filled, Gave, Complet
 use Rattle.file_pasts.specs.ServerLaws.{messages_asked, NothingRefused, FillsFrom}
 use Rattle.file_pasts.specs.ServerAccepts.{AcceptsAll, AsksAfterReplies, PutServersAccept, GetServersAccept}
 use Rattle.file_pasts.proofs.Lists.{within, take_one_more, length_take, prefix_before, last_mapped}
-use Rattle.file_pasts.proofs.ServerReplies.{serves}
+use Rattle.file_pasts.proofs.ServerReplies.{serves, read_at}
 use Rattle.file_pasts.proofs.GetLaw.{run_case, IsNextOfGet, next_of_get}
-
--- the request that reads back at this place
-read_at : (run : List Request) (n : ℕ) (r : Request) → AllReadBack run → slice_get run n ≡ Some r → request_of (request_bytes r) ≡ Ok r
-read_at [] n r a e = absurd (let b : ⊥ = cc in b)
-read_at (q ∷ run) zero r a e = subst IsReadBack (same q r e) a.0 where
-  same : (x y : Request) → Some x ≡ Some y → x ≡ y
-  same x y h = cc
-read_at (q ∷ run) (suc n) r a e = read_at run n r a.1 e
 
 -- ---- one request
 

@@ -78,7 +78,7 @@ pub record Serves (kind : CopyKind) (bytes : List ℕ) (run : List Request) (pas
   pub source : (b : List ℕ) → source_in_hand past ≡ Some b → (q : Request) × (handled kind past ≡ Some q) × (b ≡ bytes_read bytes q)
 
 -- the request that reads back at this place
-read_at : (run : List Request) (n : ℕ) (r : Request) → AllReadBack run → slice_get run n ≡ Some r → request_of (request_bytes r) ≡ Ok r
+pub read_at : (run : List Request) (n : ℕ) (r : Request) → AllReadBack run → slice_get run n ≡ Some r → request_of (request_bytes r) ≡ Ok r
 read_at [] n r a e = absurd (let b : ⊥ = cc in b)
 read_at (q ∷ run) zero r a e = subst IsReadBack (same q r e) a.0 where
   same : (x y : Request) → Some x ≡ Some y → x ≡ y

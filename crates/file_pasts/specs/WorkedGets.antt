@@ -54,14 +54,14 @@ load_pages (suc i) past =
 abbrev pub on_page : ℕ → List ℕ
 on_page page = if page == 0 then abc ++ replicate 4093 0 else zeros
 
-abbrev pub token : ℕ → PageToken
-token page = record { page = page; generation = 1 }
+abbrev pub first_token : ℕ → PageToken
+first_token page = record { page = page; generation = 1 }
 
 -- pages 0 to n - 1 are unloaded by the jobs 16 to 15 + n
 abbrev pub unload_pages : ℕ → List ClientEvent → List ClientEvent
 unload_pages zero past = past
 unload_pages (suc i) past =
-    Completed (record { number = 16 + i; result = Unloaded (on_page i) }) ∷ Gave (Unload (token i)) ∷ unload_pages i past
+    Completed (record { number = 16 + i; result = Unloaded (on_page i) }) ∷ Gave (Unload (first_token i)) ∷ unload_pages i past
 
 abbrev pub loaded : List ClientEvent
 loaded = load_pages 16 []
@@ -89,9 +89,9 @@ pub record PlacesSo : Type 0 where
   pub not_completed : next_request channels.V1 (Gave (Load 15 right.Place zeros) ∷ load_pages 15 []) ≡ None
   pub reads : next_request channels.V1 loaded ≡ Some (read_of channels.V1 1)
   pub no_unload_yet : next_job channels.V1 asked ≡ None
-  pub first_unload : next_job channels.V1 replied ≡ Some (record { number = 16; work = Unload (token 0) })
+  pub first_unload : next_job channels.V1 replied ≡ Some (record { number = 16; work = Unload (first_token 0) })
   pub no_end_yet : next_request channels.V1 replied ≡ None
-  pub last_unload : next_job channels.V1 (unload_pages 15 replied) ≡ Some (record { number = 31; work = Unload (token 15) })
+  pub last_unload : next_job channels.V1 (unload_pages 15 replied) ≡ Some (record { number = 31; work = Unload (first_token 15) })
   pub not_come : next_group channels.V1 (unload_pages 15 replied) ≡ None
   pub came : next_group channels.V1 unloaded ≡ Some abc
   pub ends : next_request channels.V1 unloaded ≡ Some (end_request 2 3)

@@ -9,7 +9,7 @@ use Rattle.file_messages.specs.declared.job.WorkResult.TheVariants.{Loaded, Unlo
 use Rattle.file_messages.specs.Messages.{request_bytes, reply_bytes, success}
 use Rattle.file_messages.specs.Runs.{inline_write, registered_write, end_request, descriptor_of_load, read_of}
 use Rattle.file_messages.specs.WorkedMessages.{abc}
-use Rattle.file_messages.specs.WorkedCopies.{bytes_of}
+use Rattle.file_messages.specs.WorkedCopies.{sevens}
 use Rattle.file_pasts.specs.ClientPast.{ClientEvent, Group, End, Sent, Replied, Gave, Completed}
 use Rattle.file_pasts.specs.PutDue.{Setup, jobs_due, next_job, wants_group}
 use Rattle.file_pasts.specs.PutDue as put
@@ -26,12 +26,12 @@ abbrev pub over_windows : ℕ → Setup
 over_windows w = record { channel = channels.V1; windows = w }
 
 abbrev pub one_group : List ClientEvent
-one_group = Group (bytes_of 65536) ∷ []
+one_group = Group (sevens 65536) ∷ []
 
 -- two groups, whose WRITEs were given
 abbrev pub both_asked : List ClientEvent
 both_asked =
-    Sent (inline_write 2 65536 (bytes_of 34464)) ∷ Sent (inline_write 1 0 (bytes_of 65536)) ∷ End ∷ Group (bytes_of 34464) ∷ one_group
+    Sent (inline_write 2 65536 (sevens 34464)) ∷ Sent (inline_write 1 0 (sevens 65536)) ∷ End ∷ Group (sevens 34464) ∷ one_group
 
 abbrev pub first_answered : List ClientEvent
 first_answered = Replied (reply_bytes (success (inline_write 1 0 []) 65536 [])) ∷ both_asked
@@ -57,18 +57,18 @@ page_unloaded =
 -- ---- gets
 
 abbrev pub whole_read : List ClientEvent
-whole_read = Replied (reply_bytes (success (read_of channels.None 1) 65536 (bytes_of 65536))) ∷ Sent (read_of channels.None 1) ∷ []
+whole_read = Replied (reply_bytes (success (read_of channels.None 1) 65536 (sevens 65536))) ∷ Sent (read_of channels.None 1) ∷ []
 
 abbrev pub second_read : List ClientEvent
 second_read =
-    Replied (reply_bytes (success (read_of channels.None 2) 34464 (bytes_of 34464))) ∷ Sent (read_of channels.None 2) ∷ whole_read
+    Replied (reply_bytes (success (read_of channels.None 2) 34464 (sevens 34464))) ∷ Sent (read_of channels.None 2) ∷ whole_read
 
 pub record GroupsSo : Type 0 where
   -- without registered pages four WRITEs may be open, and END waits for each reply
-  pub after_three : wants_group inline (Group (bytes_of 65536) ∷ Group (bytes_of 65536) ∷ one_group) ≡ true
-  pub after_four : wants_group inline (Group (bytes_of 65536) ∷ Group (bytes_of 65536) ∷ Group (bytes_of 65536) ∷ one_group) ≡ false
-  pub second_write : put.next_request inline (Sent (inline_write 1 0 (bytes_of 65536)) ∷ End ∷ Group (bytes_of 34464) ∷ one_group)
-      ≡ Some (inline_write 2 65536 (bytes_of 34464))
+  pub after_three : wants_group inline (Group (sevens 65536) ∷ Group (sevens 65536) ∷ one_group) ≡ true
+  pub after_four : wants_group inline (Group (sevens 65536) ∷ Group (sevens 65536) ∷ Group (sevens 65536) ∷ one_group) ≡ false
+  pub second_write : put.next_request inline (Sent (inline_write 1 0 (sevens 65536)) ∷ End ∷ Group (sevens 34464) ∷ one_group)
+      ≡ Some (inline_write 2 65536 (sevens 34464))
   pub end_waits : put.next_request inline both_asked ≡ None
   pub end_waits_for_both : put.next_request inline first_answered ≡ None
   pub end_comes : put.next_request inline both_answered ≡ Some (end_request 3 100000)
@@ -89,7 +89,7 @@ pub record GroupsSo : Type 0 where
   pub get_ends : get.next_request channels.None second_read ≡ Some (end_request 3 100000)
   -- the second READ at a server
   pub wants : server.wants_source kinds.Get
-      (server.Asked (request_bytes (read_of channels.None 2)) ∷ server.Replied (success (read_of channels.None 1) 65536 (bytes_of 65536))
-      ∷ server.Filled (bytes_of 65536) ∷ server.Asked (request_bytes (read_of channels.None 1)) ∷ []) ≡ Some 65536
+      (server.Asked (request_bytes (read_of channels.None 2)) ∷ server.Replied (success (read_of channels.None 1) 65536 (sevens 65536))
+      ∷ server.Filled (sevens 65536) ∷ server.Asked (request_bytes (read_of channels.None 1)) ∷ []) ≡ Some 65536
   pub too_early : (server.requests kinds.Get
       (server.Asked (request_bytes (read_of channels.None 2)) ∷ server.Asked (request_bytes (read_of channels.None 1)) ∷ [])).fault ≡ Some Order

@@ -8,8 +8,8 @@ use Rattle.file_messages.specs.declared.job.Job.{Job}
 use Rattle.file_messages.specs.declared.message.Request.{Request}
 use Rattle.file_pasts.specs.PutDue.{numbered}
 use Rattle.file_pasts.specs.ServerDue.{ServerEvent, Gave, jobs_given, jobs_in_hand, jobs_due, jobs_if_handled, handled, next_job, AnswersJob, Fits}
-use Rattle.file_transfer.specs.declared.server.FileServer.{FileServer}
-use Rattle.file_transfer.specs.ServerStands.{CameBy, after_giving}
+use Rattle.file_server.specs.declared.server.FileServer.{FileServer}
+use Rattle.file_server.specs.ServerStands.{CameBy, after_giving}
 
 number_is : (n : ℕ) (o : Option Work) (job : Job) → Some job ≡ numbered n o → job.number ≡ n
 number_is n None job e = absurd (let b : ⊥ = cc in b)

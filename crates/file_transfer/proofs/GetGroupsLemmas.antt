@@ -13,11 +13,12 @@ use Rattle.file_messages.specs.declared.job.Work.{Work}
 use Rattle.file_messages.specs.declared.job.Completion.{Completion}
 use Rattle.file_pasts.specs.ClientPast.{ClientEvent, Group, End, Sent, Replied, Gave, Completed, Received, requests_sent, jobs_given, open_jobs, job_at, without_job, fault_of_reply, reply_fault, replied, answers, has_failed, AnswersJob}
 use Rattle.file_pasts.specs.GetDue.{has_ended, some_bytes, bytes_carried, groups_came, groups_received, next_group, IsGet}
+use Rattle.file_pasts.proofs.GetGroups.{no_jobs}
 use Rattle.file_pasts.proofs.Lists.{within, left_at}
 use Rattle.file_transfer.specs.declared.get_groups.GetGroups.{GetGroups}
 use Rattle.file_transfer.specs.ClientJobs.{after_giving}
 use Rattle.file_transfer.specs.GetStands.{GroupsStand, HasRoom, awaits, after_receiving}
-use Rattle.file_transfer.proofs.ServerLists.{none_at}
+use Rattle.file_server.proofs.ServerLists.{none_at}
 use Rattle.file_transfer.proofs.GetWaits.{IsTaken, taken, taken_first, none_taken, KindWaited, Waits, waits_of}
 
 -- ---- a group is given
@@ -165,21 +166,8 @@ groups-replied past m g t =
 
 -- ---- without registered pages there are no jobs
 
-none_open : (past : List ClientEvent) → IsGet channels.None past → open_jobs past ≡ []
-none_open [] p = refl
-none_open (Group b ∷ past) p = absurd p.0
-none_open (End ∷ past) p = absurd p.0
-none_open (Sent q ∷ past) p = none_open past p.1
-none_open (Replied m ∷ past) p = none_open past p.1
-none_open (Gave work ∷ past) p = absurd (never (has_failed past) p.0) where
-  never : (t : Bool) → ◌≡◌ {A = Option Job} (cond t None None) (Some (record { number = length (jobs_given past); work = work })) → ⊥
-  never true h = cc
-  never false h = cc
-none_open (Completed c ∷ past) p = ap (without_job c.number) (none_open past p.1)
-none_open (Received b ∷ past) p = none_open past p.1
-
 pub none_answers : (channel : Channel) (past : List ClientEvent) (c : Completion) → channel ≡ channels.None → IsGet channel past → AnswersJob past c → ⊥
-none_answers channel past c e p a = none_some (open_jobs past) (none_open past (subst (λ (k : Channel). IsGet k past) e p)) a.work a.is_open where
+none_answers channel past c e p a = none_some (open_jobs past) (no_jobs past (subst (λ (k : Channel). IsGet k past) e p)) a.work a.is_open where
   none_some : (jobs : List Job) → jobs ≡ [] → (work : Work) → job_at c.number jobs ≡ Some work → ⊥
   none_some [] h work k = cc
   none_some (x ∷ xs) h work k = cc

@@ -1,14 +1,3 @@
-pub mod ServerLists
-pub mod ServerOutcomes
-pub mod ServerPasts
-pub mod ServerGave
-pub mod ServerCompleted
-pub mod ServerStarts
-pub mod ServerReplies
-pub mod ServerFilled
-pub mod ServerReplied
-pub mod ServerRequests
-pub mod ServerAsked
 pub mod PutClientLemmas
 pub mod PutBounds
 pub mod ClientJobsLemmas

@@ -17,12 +17,12 @@ use Rattle.file_transfer.specs.GetStands.{awaits}
 abbrev pub loaded_in : Page → Option Descriptor
 loaded_in page = option_map descriptor_in page.loaded
 
-abbrev pub bytes_in : Option (List ℕ) → List ℕ
-bytes_in None = []
-bytes_in (Some bytes) = bytes
+abbrev pub bytes_or_none : Option (List ℕ) → List ℕ
+bytes_or_none None = []
+bytes_or_none (Some bytes) = bytes
 
 abbrev pub back_in : Page → List ℕ
-back_in page = bytes_in page.back
+back_in page = bytes_or_none page.back
 
 -- the bytes that these have together
 abbrev pub sizes : List (List ℕ) → ℕ

@@ -1,5 +1,3 @@
-pub mod ServerTurn
-pub mod ServerStands
 pub mod ClientJobs
 pub mod ClientStands
 pub mod GetStands

@@ -10,7 +10,6 @@ ghost use Rattle.file_transfer.specs.GetStands.{awaits};
 ghost use Rattle.file_transfer.specs.GetPagesStand.{MayNote, loaded_in, back_in, all_of, unused_pages, loads_at, pages_from, first_unload};
 
 use crate::loaded_page::LoadedPage;
-use crate::messages::share;
 use buffer_descriptor::Descriptor;
 use file_messages::{Completion, Work, WorkResult};
 use smbd_base::{Message, NoMemory, PAGE_SIZE, Right};
@@ -42,7 +41,7 @@ pub fn loads_of_next(alloc: Global) -> Result<VecDeque<Work>, NoMemory>
         loads.push_back(Work::Load {
             page: page as u8,
             right: Right::Place,
-            bytes: share(&zeros)?,
+            bytes: zeros.share()?,
         })?;
     }
     Ok(loads)

@@ -1,5 +1,6 @@
-//! The file layer's machines (this project's own): the client of a put, the client of a get, and the server of both. They take and give
-//! messages, and jobs for whoever works on registered pages; they keep no history, and no clock or thread drives them.
+//! The file layer's machines (this project's own): the client of a put, the client of a get, and the server of both, which `file_server`
+//! has. They take and give messages, and jobs for whoever works on registered pages; they keep no history, and no clock or thread
+//! drives them.
 //!
 //! What each answer means is told by the past: what was handed to the machine and what it gave, the newest first
 //! (`file_pasts`). A contract holds for every past by which the machine came to stand as it does.
@@ -14,19 +15,13 @@ mod get_pages;
 mod get_registered;
 mod get_requests;
 mod loaded_page;
-mod messages;
 mod put_client;
 mod put_inline;
 mod put_pages;
 mod put_registered;
 mod put_requests;
-mod server;
-mod server_course;
-mod server_outcomes;
-mod server_reply;
-mod server_turn;
 mod writing;
 
+pub use file_server::FileServer;
 pub use get_client::GetClient;
 pub use put_client::PutClient;
-pub use server::FileServer;

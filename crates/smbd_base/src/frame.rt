@@ -43,6 +43,13 @@ impl Frame {
         })
     }
 
+    /// The same frame, which shares its bytes.
+    pub fn share(&self) -> Result<Frame, NoMemory>
+        ensures { IfOk result (λ f. f ≡ self.now) }
+    {
+        Ok(self.clone()?)
+    }
+
     pub fn bytes(&self) -> &[u8]
         ensures { result.now ≡ self.now }
     {

@@ -56,6 +56,13 @@ impl Message {
         }
     }
 
+    /// The same message, which shares the bytes that are shared.
+    pub fn share(&self) -> Result<Message, NoMemory>
+        ensures { IfOk result (λ m. m ≡ self.now) }
+    {
+        Ok(self.clone()?)
+    }
+
     pub fn bytes(&self) -> &[u8]
         ensures { result.now ≡ self.now }
     {

@@ -5,7 +5,7 @@ use crate::right::Right;
 use crate::token::Token;
 
 /// What happens to a page of a pool: its life is the list of these.
-#[derive(Clone, Debug, Drop)]
+#[derive(Debug, Drop)]
 pub enum PageEvent {
     /// The page was loaded with these bytes, and zeros after them, for a peer with this right.
     Load {

@@ -22,7 +22,7 @@ fn newest(world: &World, end: EndId) -> Result<Option<Message>, NoMemory>
     ensures { IfOk result (λ m. m ≡ newest_brought end (limits_of end world.now) (past_of end world.now)) }
 {
     match world.newest_delivered(end) {
-        Some(message) => Ok(Some(message.clone()?)),
+        Some(message) => Ok(Some(message.share()?)),
         None => Ok(None),
     }
 }

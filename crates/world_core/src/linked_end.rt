@@ -87,8 +87,8 @@ impl LinkedEnd {
         ensures peer_same { OnErr result (peer.new ≡ peer.old) }
     {
         peer.undelivered.reserve(1)?;
-        let copy = copy_of(message)?;
-        let shared = copy_of(message)?;
+        let copy = message.share()?;
+        let shared = message.share()?;
         let Err(refused) = self.end.submit(copy) else {
             peer.undelivered.push_back_reserved(shared);
             self.is_newest = false;
@@ -152,7 +152,7 @@ impl LinkedEnd {
         let Some(first) = self.arriving.front() else {
             return Ok(Step::Nothing);
         };
-        let frame = first.clone()?;
+        let frame = first.share()?;
         self.is_newest = take(
             &mut self.end,
             &mut self.undelivered,
@@ -228,13 +228,6 @@ fn take(
         ) => Err(NoMemory),
         Err(_) => unreachable!(),
     }
-}
-
-/// A copy of a message that is submitted.
-fn copy_of(message: &Message) -> Result<Message, NoMemory>
-    ensures { IfOk result (λ copy. copy ≡ message.now) }
-{
-    Ok(message.clone()?)
 }
 
 /// Why a submission was refused. The message is let go.

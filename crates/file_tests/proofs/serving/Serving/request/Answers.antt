@@ -1,4 +1,4 @@
-use Rattle.file_transfer.specs.ServerStands.{after_request}
+use Rattle.file_server.specs.ServerStands.{after_request}
 use Rattle.file_tests.proofs.serving.Serving.request.Goals as goal
 
 pub invariant_of-self : goal.invariant_of-self

@@ -1,0 +1,11 @@
+pub mod ServerLists
+pub mod ServerOutcomes
+pub mod ServerPasts
+pub mod ServerGave
+pub mod ServerCompleted
+pub mod ServerStarts
+pub mod ServerReplies
+pub mod ServerFilled
+pub mod ServerReplied
+pub mod ServerRequests
+pub mod ServerAsked

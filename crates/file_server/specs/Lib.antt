@@ -1,0 +1,2 @@
+pub mod ServerTurn
+pub mod ServerStands
