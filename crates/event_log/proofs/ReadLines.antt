@@ -82,7 +82,7 @@ read_as side name parts more line whole same lawful is rest =
     let P : LogLine → Type 0 = λ l. IsReadAs side name parts l in
     subst P same (record { lawful = lawful; words_are = ap (λ (ps : List (List ℕ)). name ∷ ps) rest ∙ is })
 
-no_bytes : IsBytes []
+pub no_bytes : IsBytes []
 no_bytes i = omega arith
 
 post_read : (side : Side) → IsEnd side → (parts : List (List ℕ)) (line : LogLine) → post_of parts ≡ Some line → IsReadAs side (codes "post") parts line

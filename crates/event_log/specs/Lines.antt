@@ -7,6 +7,8 @@ use Rattle.smbd_base.specs.declared.token.TheConstants.{PAGE_SIZE}
 use Rattle.smbd_base.specs.Tokens.{number_of, IsToken}
 use Rattle.smbd_base.specs.declared.event.Event.{Event}
 use Rattle.smbd_base.specs.declared.event.Event.TheVariants as events
+use Rattle.smbd_base.specs.declared.page_event.PageEvent.{PageEvent}
+use Rattle.smbd_base.specs.declared.page_event.PageEvent.TheVariants as pages
 use Rattle.smbd_base.specs.declared.right.Right.{Right}
 use Rattle.smbd_base.specs.declared.right.Right.TheVariants as rights
 use Rattle.event_log.specs.declared.side.Side.{Side}
@@ -109,3 +111,17 @@ logged number (events.Submit message) = Submit (length message)
 logged number (events.Emit frame) = Emit frame
 logged number (events.Take frame) = Take number (length frame)
 logged number events.Cut = Cut
+
+-- The line of an event of a page. Bytes go by their number.
+abbrev pub logged_page : PageEvent → LogLine
+logged_page (pages.Load token right bytes) = Load token right (length bytes)
+logged_page (pages.Fetch token at bytes) = Fetch token at (length bytes)
+logged_page (pages.Place token order at bytes) = Place token order at (length bytes)
+logged_page (pages.Unload token bytes) = Unload token
+
+-- what the line tells of the length of the bytes is no more than a page
+abbrev pub IsShort : PageEvent → Type 0
+IsShort (pages.Load token right bytes) = length bytes ≤ PAGE_SIZE
+IsShort (pages.Fetch token at bytes) = length bytes ≤ PAGE_SIZE
+IsShort (pages.Place token order at bytes) = length bytes ≤ PAGE_SIZE
+IsShort (pages.Unload token bytes) = Unit {0}

@@ -1,6 +1,10 @@
 -- Lines that read and texts that do not, worked out.
-use Rattle.std.specs.Prelude.{ℕ, List, [], ◌∷◌, codes, Result, Ok, Err}
+use Rattle.std.specs.Prelude.{◌≡◌, ℕ, List, [], ◌∷◌, codes, replicate, Result, Ok, Err}
 use Rattle.smbd_base.specs.declared.right.Right.TheVariants as rights
+use Rattle.smbd_base.specs.declared.page_event.PageEvent.{PageEvent}
+use Rattle.smbd_base.specs.declared.page_event.PageEvent.TheVariants as pages
+use Rattle.smbd_base.specs.Tokens.{PageToken}
+use Rattle.event_log.specs.Lines.{line_text, logged_page}
 use Rattle.event_log.specs.declared.side.Side.{Side}
 use Rattle.event_log.specs.declared.side.Side.TheVariants.{C, S, Cw, Sw}
 use Rattle.event_log.specs.declared.log_line.LogLine.{LogLine}
@@ -46,3 +50,15 @@ worked_faults =
     ∷ (codes "C emit 0g", Err faults.Hex)
     ∷ (codes "C emit 0A", Err faults.Hex)
     ∷ []
+
+-- the token of the first load of page 0, whose number is 256
+abbrev pub first_token : PageToken
+first_token = record { page = 0; generation = 1 }
+
+-- an event of a page of a worker, and its line
+pub record TellsPages : Type 0 where
+  pub load : line_text (Cw 1) (logged_page (pages.Load first_token rights.Fetch (codes "abc"))) ≡ codes "C1 load 256 fetch 3"
+  pub place_load : line_text (Cw 2) (logged_page (pages.Load first_token rights.Place (replicate 4096 0))) ≡ codes "C2 load 256 place 4096"
+  pub fetch : line_text (Sw 1) (logged_page (pages.Fetch first_token 0 (codes "abc"))) ≡ codes "S1 fetch 256 0 3"
+  pub place : line_text (Sw 8) (logged_page (pages.Place first_token 2 4095 (codes "a"))) ≡ codes "S8 place 256 2 4095 1"
+  pub unload : line_text (Cw 1) (logged_page (pages.Unload first_token (replicate 4096 7))) ≡ codes "C1 unload 256"

@@ -26,6 +26,13 @@ impl Model for Line {
 }
 
 impl Line {
+    /// The line of this text.
+    pub(crate) fn of_text(text: String) -> Line
+        ensures { result ≡ string_bytes text }
+    {
+        Line { text }
+    }
+
     /// The bytes of the line, without its line feed.
     pub fn bytes(&self) -> &[u8]
         ensures { result.now ≡ self.now }
@@ -35,7 +42,7 @@ impl Line {
 }
 
 /// Adds the hex of a frame.
-fn add_frame(alloc: Global, text: &mut String, frame: &Frame) -> Result<(), NoMemory>
+pub(crate) fn add_frame(alloc: Global, text: &mut String, frame: &Frame) -> Result<(), NoMemory>
     ensures text { OnOk result (string_bytes text.new ≡ string_bytes text.old ++ encode_lower frame.now) }
     ensures bytes { IsBytes frame.now }
 {
