@@ -10,8 +10,7 @@ front_is (first ∷ later) front some is = ap (λ (f : List ℕ). f ∷ later) (
 
 pub take-requires : goal.take-requires
 take-requires c =
-    let clone = c.in_ok-frame.ensures.cases in
-    let same : c.in_ok-frame.frame ≡ c.in-Some.first.now = sym clone.3 ∙ clone.4 ∙ clone.2 in
+    let same : c.in_ok-frame.frame ≡ c.in-Some.first.now = c.in_ok-frame.ensures in
     let item = c.in-Some.ensures.item in
     let front = front_is c.self.inside.arriving.items c.in-Some.first.now item.3.0 item.1 in
     let arriving = sym (ap (λ (l : Linked). l.arriving) c.self.view_is) ∙ front in
