@@ -53,6 +53,13 @@ impl Pages {
         Ok((Pages { slots }, Passes::open(seats)))
     }
 
+    /// How many pages there are.
+    pub fn count(&self) -> usize
+        ensures { result ≡ length self.now }
+    {
+        self.slots.len()
+    }
+
     /// Loads a page with 1 to 4,096 bytes, and zeros after them, for a peer with this right. A page's first load has
     /// the pool's first generation, and each later one the next.
     pub fn load(&mut self, pass: &mut PagePass, page: u8, right: Right, bytes: &[u8]) -> Load

@@ -73,6 +73,13 @@ impl Region {
         Ok((Region { pages, table }, passes))
     }
 
+    /// How many pages there are.
+    pub fn count(&self) -> usize
+        ensures { result ≡ length self.now.pages }
+    {
+        self.pages.count()
+    }
+
     /// Loads a page with 1 to 4,096 bytes, and zeros after them, and issues the record of these bytes.
     pub fn register(
         &mut self,
