@@ -60,6 +60,14 @@ impl Pages {
         self.slots.len()
     }
 
+    /// How many places the token has had under which the page is loaded; none where it isn't loaded.
+    pub fn places_had(&self, page: u8) -> u16
+        requires { page < length self.now }
+        ensures { result ≡ places_had (page_at page self.now).loaded }
+    {
+        self.slots[usize::from(page)].places_had()
+    }
+
     /// Loads a page with 1 to 4,096 bytes, and zeros after them, for a peer with this right. A page's first load has
     /// the pool's first generation, and each later one the next.
     pub fn load(&mut self, pass: &mut PagePass, page: u8, right: Right, bytes: &[u8]) -> Load

@@ -46,6 +46,16 @@ fn fill_up(content: &mut [u8], bytes: &[u8])
 }
 
 impl Slot {
+    /// How many places the token of what is loaded has had; none where nothing is loaded.
+    pub fn places_had(&self) -> u16
+        ensures { result ≡ places_had self.now.loaded }
+    {
+        match self.right {
+            Some(_) => self.places,
+            None => 0,
+        }
+    }
+
     /// A page that isn't loaded, with this as its last generation.
     pub fn open(alloc: Global, generation: u32) -> Result<Slot, NoMemory>
         requires { generation ≤ LAST_GENERATION }

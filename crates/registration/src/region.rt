@@ -80,6 +80,14 @@ impl Region {
         self.pages.count()
     }
 
+    /// How many places the token has had under which the page is loaded; none where it isn't loaded.
+    pub fn places_had(&self, page: u8) -> u16
+        requires { IsAmong page self.now }
+        ensures { result ≡ places_had (page_at page self.now.pages).loaded }
+    {
+        self.pages.places_had(page)
+    }
+
     /// Loads a page with 1 to 4,096 bytes, and zeros after them, and issues the record of these bytes.
     pub fn register(
         &mut self,

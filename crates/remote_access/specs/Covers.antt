@@ -49,11 +49,13 @@ pub record WritesUnder (entry : Record) (descriptor : Descriptor) (bytes : List 
 -- a remote read: under a record of the region that covers the descriptor
 pub record Reads (descriptor : Descriptor) (out : List ℕ) (old new : RegionState) : Type 0 where
   pub entry : Record
+  pub token : token_of descriptor.token ≡ Some entry.token
   pub listed : claim_answer entry.token old.table ≡ claims.Held entry
   pub under : ReadsUnder entry descriptor out old.pages new.pages
 
 -- a remote write: under a record of the region that covers the descriptor
 pub record Writes (descriptor : Descriptor) (bytes : List ℕ) (old new : RegionState) : Type 0 where
   pub entry : Record
+  pub token : token_of descriptor.token ≡ Some entry.token
   pub listed : claim_answer entry.token old.table ≡ claims.Held entry
   pub under : WritesUnder entry descriptor bytes old.pages new.pages
