@@ -4,7 +4,6 @@ ghost use Rattle.std.specs.Prelude.{◌≡◌, ◌≤◌};
 
 use credit_ledger::Ledger;
 use std::process::Abort;
-use std::test::Fail;
 
 /// A step of an end, with the receives that are posted, or the credits that the frame grants.
 #[derive(Clone, Copy)]
@@ -191,7 +190,7 @@ fn follow(rt: &impl Abort, max: u16, steps: &[Step]) -> Ledger {
 }
 
 #[test]
-fn ledgers_count_and_keep_the_last_credit(rt: HostRuntime) -> Result<(), Fail> {
+fn ledgers_count_and_keep_the_last_credit(rt: HostRuntime) {
     for row in ROWS {
         let name = row.name;
         let ledger = follow(&rt, row.max, row.steps);
@@ -204,5 +203,4 @@ fn ledgers_count_and_keep_the_last_credit(rt: HostRuntime) -> Result<(), Fail> {
             assert!(rt; !ledger.may_spend(*grant), "{name}: {grant}");
         }
     }
-    Ok(())
 }

@@ -2,6 +2,7 @@
 
 ghost use Rattle.std.specs.Prelude.{◌<◌, ◌≤◌, ◌^◌, length};
 
+use crate::MEMORY;
 use fragmenter::{Cutter, Piece};
 use smbd_base::Message;
 use std::alloc::Global;
@@ -48,9 +49,6 @@ const ROWS: &[Row<'static>] = &[
         pieces: &[(0, 104, 105), (104, 104, 1), (208, 1, 0)],
     },
 ];
-
-/// What is said where memory is wanting.
-const MEMORY: &str = "memory for a test";
 
 /// A cutter of so many bytes, none of which was given.
 fn cutter_of(rt: &impl Abort, alloc: Global, bytes: usize, payload: u32) -> Cutter {

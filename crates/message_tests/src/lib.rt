@@ -13,3 +13,7 @@ mod gathering;
 mod negotiation;
 #[cfg(test)]
 mod transfer;
+
+/// What is said where memory is wanting.
+#[cfg(test)]
+const MEMORY: &str = "memory for a test";

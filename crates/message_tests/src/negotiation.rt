@@ -1,13 +1,12 @@
 //! Negotiation messages: the written forms, and each field at its bound and beside it.
 
-ghost use Rattle.std.specs.Prelude.{◌+◌, ◌≤◌, length};
-
 use negotiate_msg::NegotiateFault::*;
 use negotiate_msg::{
     Agreed, NegotiateFault, NegotiateRequest, NegotiateResponse, answer, read_request,
     read_response, refusal, settle, write_request, write_response,
 };
 use smbd_base::EndLimits;
+use std::process::Abort;
 
 /// The request of the usual limits, and what it says.
 const REQUEST_BYTES: &[u8; 20] =
@@ -43,21 +42,64 @@ const RESPONSE: NegotiateResponse = NegotiateResponse {
 const REFUSAL_BYTES: &[u8; 32] =
     b"\x00\x01\x00\x01\x00\x00\x00\x00\x00\x00\x00\x00\xbb\x00\x00\xc0\x00\x00\x00\x00\x00\x00\x00\x00\x00\x00\x00\x00\x00\x00\x00\x00";
 
+// What the calls do, of which a test's proof has to know no more.
+
+fn request_of(bytes: &[u8]) -> Result<NegotiateRequest, NegotiateFault> {
+    read_request(bytes)
+}
+
+fn response_of(bytes: &[u8], own: &EndLimits) -> Result<NegotiateResponse, NegotiateFault> {
+    read_response(bytes, own)
+}
+
+fn settled(bytes: &[u8], own: &EndLimits) -> Result<Agreed, NegotiateFault> {
+    match read_response(bytes, own) {
+        Ok(response) => Ok(settle(&response, own)),
+        Err(fault) => Err(fault),
+    }
+}
+
+fn answered(
+    rt: &impl Abort,
+    request: &NegotiateRequest,
+    grantable: u16,
+) -> (NegotiateResponse, Agreed) {
+    assert!(rt; grantable >= 1 && request.min_version <= 0x0100 && request.max_version >= 0x0100);
+    assert!(rt; request.credits_requested >= 1 && request.max_receive_size >= 128);
+    assert!(rt; request.max_fragmented_size >= 131_072);
+    answer(request, &EndLimits::usual(), grantable)
+}
+
+fn request_bytes() -> [u8; 20] {
+    let mut bytes = [7; 20];
+    write_request(&EndLimits::usual(), &mut bytes);
+    bytes
+}
+
+fn response_bytes(response: &NegotiateResponse) -> [u8; 32] {
+    let mut bytes = [7; 32];
+    write_response(response, &mut bytes);
+    bytes
+}
+
+/// Puts other bytes at a place.
+fn overwrite(rt: &impl Abort, bytes: &mut [u8], place: usize, part: &[u8]) {
+    assert!(rt; place <= bytes.len());
+    assert!(rt; part.len() <= bytes.len() - place);
+    bytes[place..][..part.len()].copy_from_slice(part);
+}
+
 /// The request with other bytes at a place.
-fn request_with(place: usize, part: &[u8]) -> [u8; 20]
-    requires { place + length part.now ≤ 20 }
-{
+fn request_with(rt: &impl Abort, place: usize, part: &[u8]) -> [u8; 20] {
     let mut bytes = *REQUEST_BYTES;
-    bytes[place..place + part.len()].copy_from_slice(part);
+    overwrite(rt, &mut bytes, place, part);
     bytes
 }
 
 /// The response with other bytes at a place.
-fn response_with(place: usize, part: &[u8]) -> [u8; 32]
-    requires { place + length part.now ≤ 32 }
-{
+fn response_with(rt: &impl Abort, place: usize, part: &[u8]) -> [u8; 32] {
     let mut bytes = *RESPONSE_BYTES;
-    bytes[place..place + part.len()].copy_from_slice(part);
+    overwrite(rt, &mut bytes, place, part);
     bytes
 }
 
@@ -98,10 +140,8 @@ fn a_request_has_its_first_fault(rt: HostRuntime) {
         ),
     ];
     for &(place, part, expected) in CASES {
-        assert!(rt; place <= 20);
-        assert!(rt; part.len() <= 20 - place);
-        let bytes = request_with(place, part);
-        assert_eq!(rt; read_request(&bytes).err(), expected, "{part:?} at {place}");
+        let bytes = request_with(&rt, place, part);
+        assert_eq!(rt; request_of(&bytes).err(), expected, "{part:?} at {place}");
     }
 }
 
@@ -154,11 +194,9 @@ fn a_response_has_its_first_fault(rt: HostRuntime) {
         (0, REFUSAL_BYTES, Some(Status)),
     ];
     for &(place, part, expected) in CASES {
-        assert!(rt; place <= 32);
-        assert!(rt; part.len() <= 32 - place);
-        let bytes = response_with(place, part);
+        let bytes = response_with(&rt, place, part);
         assert_eq!(rt;
-            read_response(&bytes, &usual).err(),
+            response_of(&bytes, &usual).err(),
             expected,
             "{part:?} at {place}"
         );
@@ -176,7 +214,7 @@ fn each_field_is_read_at_its_place(rt: HostRuntime) {
         max_receive_size: 0x100f_0e0d,
         max_fragmented_size: 0x1413_1211,
     };
-    assert_eq!(rt; read_request(asked), Ok(request));
+    assert_eq!(rt; request_of(asked), Ok(request));
     let answered =
         b"\x01\x02\x03\x04\x00\x01\x07\x08\x09\x0a\x0b\x00\x00\x00\x00\x00\x11\x12\x13\x14\x15\x16\x00\x00\x19\x1a\x1b\x1c\x1d\x1e\x1f\x20";
     let response = NegotiateResponse {
@@ -191,7 +229,7 @@ fn each_field_is_read_at_its_place(rt: HostRuntime) {
         max_receive_size: 0x1c1b_1a19,
         max_fragmented_size: 0x201f_1e1d,
     };
-    assert_eq!(rt; read_response(answered, &EndLimits::usual()), Ok(response));
+    assert_eq!(rt; response_of(answered, &EndLimits::usual()), Ok(response));
 }
 
 #[test]
@@ -217,75 +255,55 @@ fn a_client_is_granted_and_sent_no_more_than_its_limits(rt: HostRuntime) {
         ),
     ];
     for &(part, expected) in CASES {
-        let bytes = response_with(10, part);
-        assert_eq!(rt; read_response(&bytes, &own).err(), expected, "{part:?}");
+        let bytes = response_with(&rt, 10, part);
+        assert_eq!(rt; response_of(&bytes, &own).err(), expected, "{part:?}");
+    }
+}
+
+/// Reads so many bytes of 40 as a request and as a response: fewer than 20 or 32 are short, and more are read so.
+fn read_each_length(
+    rt: &impl Abort,
+    bytes: &[u8; 40],
+    request: Result<NegotiateRequest, NegotiateFault>,
+    response: Result<NegotiateResponse, NegotiateFault>,
+) {
+    let usual = EndLimits::usual();
+    for length in 0..41usize {
+        assert!(rt; length <= 40);
+        let asked = if length < 20 { Err(Short) } else { request };
+        assert_eq!(rt; request_of(&bytes[..length]), asked, "{length} bytes");
+        let answered = if length < 32 { Err(Short) } else { response };
+        assert_eq!(rt;
+            response_of(&bytes[..length], &usual),
+            answered,
+            "{length} bytes"
+        );
     }
 }
 
 #[test]
 fn short_messages_are_refused_and_long_ones_read(rt: HostRuntime) {
-    let usual = EndLimits::usual();
     let mut request = [7; 40];
     request[..20].copy_from_slice(REQUEST_BYTES);
+    read_each_length(&rt, &request, Ok(REQUEST), Err(Status));
     let mut response = [7; 40];
     response[..32].copy_from_slice(RESPONSE_BYTES);
+    read_each_length(&rt, &response, Err(Credits), Ok(RESPONSE));
     let mut refused = [7; 40];
     refused[..32].copy_from_slice(REFUSAL_BYTES);
-    for length in 0..41usize {
-        assert!(rt; length <= 40);
-        let asked = if length < 20 { Err(Short) } else { Ok(REQUEST) };
-        assert_eq!(rt; read_request(&request[..length]), asked, "{length} bytes");
-        let answered = if length < 32 {
-            Err(Short)
-        } else {
-            Ok(RESPONSE)
-        };
-        assert_eq!(rt;
-            read_response(&response[..length], &usual),
-            answered,
-            "{length} bytes"
-        );
-        let fault = if length < 32 { Short } else { Status };
-        assert_eq!(rt;
-            read_response(&refused[..length], &usual),
-            Err(fault),
-            "{length} bytes"
-        );
-    }
+    read_each_length(&rt, &refused, Err(Credits), Err(Status));
 }
 
 #[test]
 fn zeros_and_ones_are_no_message(rt: HostRuntime) {
-    let usual = EndLimits::usual();
-    // a byte, and the fault of a whole request and of a whole response of it
-    for (byte, in_request, in_response) in [(0, Version, Version), (0xff, Version, Status)] {
-        let bytes = [byte; 40];
-        for length in 0..41usize {
-            assert!(rt; length <= 40);
-            let asked = if length < 20 { Short } else { in_request };
-            assert_eq!(rt;
-                read_request(&bytes[..length]),
-                Err(asked),
-                "{length} of {byte}"
-            );
-            let answered = if length < 32 { Short } else { in_response };
-            assert_eq!(rt;
-                read_response(&bytes[..length], &usual),
-                Err(answered),
-                "{length} of {byte}"
-            );
-        }
-    }
+    read_each_length(&rt, &[0; 40], Err(Version), Err(Version));
+    read_each_length(&rt, &[0xff; 40], Err(Version), Err(Status));
 }
 
 #[test]
 fn writes_the_one_form(rt: HostRuntime) {
-    let mut request = [7; 20];
-    write_request(&EndLimits::usual(), &mut request);
-    assert_eq!(rt; &request, REQUEST_BYTES);
-    let mut refused = [7; 32];
-    write_response(&refusal(), &mut refused);
-    assert_eq!(rt; &refused, REFUSAL_BYTES);
+    assert_eq!(rt; &request_bytes(), REQUEST_BYTES);
+    assert_eq!(rt; &response_bytes(&refusal()), REFUSAL_BYTES);
     const CASES: &[(NegotiateResponse, &[u8; 32])] = &[
         (RESPONSE, RESPONSE_BYTES),
         (
@@ -305,9 +323,7 @@ fn writes_the_one_form(rt: HostRuntime) {
         ),
     ];
     for &(response, expected) in CASES {
-        let mut out = [7; 32];
-        write_response(&response, &mut out);
-        assert_eq!(rt; &out, expected, "{response:?}");
+        assert_eq!(rt; &response_bytes(&response), expected, "{response:?}");
     }
 }
 
@@ -321,7 +337,6 @@ const AGREED: Agreed = Agreed {
 
 #[test]
 fn answers_with_the_smaller_of_asked_and_grantable(rt: HostRuntime) {
-    let usual = EndLimits::usual();
     const CASES: &[(NegotiateRequest, u16, NegotiateResponse, Agreed)] = &[
         (REQUEST, 255, RESPONSE, AGREED),
         (REQUEST, 256, RESPONSE, AGREED),
@@ -380,13 +395,8 @@ fn answers_with_the_smaller_of_asked_and_grantable(rt: HostRuntime) {
         ),
     ];
     for &(request, grantable, response, agreed) in CASES {
-        assert!(rt;
-            grantable >= 1 && request.min_version <= 0x0100 && request.max_version >= 0x0100
-        );
-        assert!(rt; request.credits_requested >= 1 && request.max_receive_size >= 128);
-        assert!(rt; request.max_fragmented_size >= 131_072);
         assert_eq!(rt;
-            answer(&request, &usual, grantable),
+            answered(&rt, &request, grantable),
             (response, agreed),
             "{request:?}, {grantable}"
         );
@@ -424,11 +434,7 @@ fn a_client_settles_what_the_server_says(rt: HostRuntime) {
         ),
     ];
     for &(part, agreed) in CASES {
-        let bytes = response_with(16, part);
-        let settled = match read_response(&bytes, &usual) {
-            Ok(response) => Ok(settle(&response, &usual)),
-            Err(fault) => Err(fault),
-        };
-        assert_eq!(rt; settled, Ok(agreed), "{part:?}");
+        let bytes = response_with(&rt, 16, part);
+        assert_eq!(rt; settled(&bytes, &usual), Ok(agreed), "{part:?}");
     }
 }

@@ -1,21 +1,11 @@
 //! Data transfer messages, whole and broken.
 
-ghost use Rattle.std.specs.Prelude.{◌<◌};
-
+use std::process::Abort;
 use transfer_msg::{DataView, FrameFault, Header, read, write};
 
-/// A message that asks for 255 credits, grants one and carries `abc`.
-const MESSAGE: &[u8; 27] =
-    b"\xff\x00\x01\x00\x00\x00\x00\x00\x00\x00\x00\x00\x18\x00\x00\x00\x03\x00\x00\x00\x00\x00\x00\x00abc";
-
-/// The message with another number in this byte.
-fn with_byte(at: usize, number: u8) -> [u8; 27]
-    requires { at < 27 }
-{
-    let mut bytes = *MESSAGE;
-    bytes[at] = number;
-    bytes
-}
+/// A message that asks for 255 credits, grants one and carries `abc`, and two bytes after it.
+const MESSAGE: &[u8; 29] =
+    b"\xff\x00\x01\x00\x00\x00\x00\x00\x00\x00\x00\x00\x18\x00\x00\x00\x03\x00\x00\x00\x00\x00\x00\x00abc\x07\x07";
 
 /// The message's view, with this payload.
 fn view_of(payload: &[u8]) -> DataView<'_> {
@@ -28,56 +18,88 @@ fn view_of(payload: &[u8]) -> DataView<'_> {
     }
 }
 
+/// Reads the first bytes of the message, with another number in one of them.
+fn read_with(
+    rt: &impl Abort,
+    at: usize,
+    number: u8,
+    length: usize,
+    expected: Result<&[u8], FrameFault>,
+) {
+    let mut bytes = *MESSAGE;
+    assert!(rt; at < 29 && length <= 29);
+    bytes[at] = number;
+    let view = match expected {
+        Ok(payload) => Ok(view_of(payload)),
+        Err(fault) => Err(fault),
+    };
+    assert_eq!(rt;
+        read(&bytes[..length]),
+        view,
+        "{number} at {at}, {length} bytes"
+    );
+}
+
 #[test]
 fn reads_a_message_or_its_first_fault(rt: HostRuntime) {
-    let longer =
-        b"\xff\x00\x01\x00\x00\x00\x00\x00\x00\x00\x00\x00\x18\x00\x00\x00\x03\x00\x00\x00\x00\x00\x00\x00abc\x07\x07";
-    let cases: [(&str, &[u8], Result<DataView, FrameFault>); 9] = [
-        ("as it is", MESSAGE, Ok(view_of(b"abc"))),
-        ("two bytes after it", longer, Ok(view_of(b"abc"))),
-        ("DataOffset 20", &with_byte(12, 20), Err(FrameFault::Offset)),
-        ("DataOffset 28", &with_byte(12, 28), Err(FrameFault::Offset)),
-        ("DataOffset 32", &with_byte(12, 32), Err(FrameFault::Length)),
-        ("DataLength 4", &with_byte(16, 4), Err(FrameFault::Length)),
-        ("19 bytes", &MESSAGE[..19], Err(FrameFault::Short)),
-        (
-            "20 bytes, DataLength 0",
-            &with_byte(16, 0)[..20],
-            Ok(view_of(b"")),
-        ),
-        ("DataLength 0", &with_byte(16, 0), Ok(view_of(b""))),
+    // the number of a byte, so many bytes of it, and their payload or their fault
+    const CASES: &[(usize, u8, usize, Result<&[u8], FrameFault>)] = &[
+        // as it is, and with two bytes after it
+        (0, 0xff, 27, Ok(b"abc")),
+        (0, 0xff, 29, Ok(b"abc")),
+        // DataOffset
+        (12, 20, 27, Err(FrameFault::Offset)),
+        (12, 28, 27, Err(FrameFault::Offset)),
+        (12, 32, 27, Err(FrameFault::Length)),
+        // DataLength
+        (16, 4, 27, Err(FrameFault::Length)),
+        (16, 0, 27, Ok(b"")),
+        (16, 0, 20, Ok(b"")),
+        (0, 0xff, 19, Err(FrameFault::Short)),
     ];
-    for (name, bytes, expected) in cases {
-        assert_eq!(rt; read(bytes), expected, "{name}");
+    for &(at, number, length, expected) in CASES {
+        read_with(&rt, at, number, length, expected);
     }
 }
 
-fn header_of(granted: u16, response_requested: bool, remaining: u32, length: u32) -> Header {
-    Header {
+/// What is written of a header that asks for 255 credits.
+fn write_header(
+    rt: &impl Abort,
+    granted: u16,
+    response_requested: bool,
+    remaining: u32,
+    length: u32,
+    expected: &[u8],
+) {
+    let header = Header {
         credits_requested: 255,
         credits_granted: granted,
         response_requested,
         remaining,
         length,
-    }
+    };
+    let mut out = [7; 24];
+    let written = write(&mut out, &header);
+    assert_eq!(rt; &out[..written], expected, "{header:?}");
 }
 
 #[test]
 fn writes_the_header_of_a_message(rt: HostRuntime) {
-    let cases: [(Header, &[u8]); 3] = [
-        (header_of(1, false, 0, 3), &MESSAGE[..24]),
-        (
-            header_of(0, true, 320, 1_340),
-            b"\xff\x00\x00\x00\x01\x00\x00\x00\x40\x01\x00\x00\x18\x00\x00\x00\x3c\x05\x00\x00\x00\x00\x00\x00",
-        ),
-        (
-            header_of(3, true, 320, 0),
-            b"\xff\x00\x03\x00\x00\x00\x00\x00\x00\x00\x00\x00\x00\x00\x00\x00\x00\x00\x00\x00",
-        ),
-    ];
-    for (header, expected) in cases {
-        let mut out = [7; 24];
-        let written = write(&mut out, &header);
-        assert_eq!(rt; &out[..written], expected, "{header:?}");
-    }
+    write_header(&rt, 1, false, 0, 3, &MESSAGE[..24]);
+    write_header(
+        &rt,
+        0,
+        true,
+        320,
+        1_340,
+        b"\xff\x00\x00\x00\x01\x00\x00\x00\x40\x01\x00\x00\x18\x00\x00\x00\x3c\x05\x00\x00\x00\x00\x00\x00",
+    );
+    write_header(
+        &rt,
+        3,
+        true,
+        320,
+        0,
+        b"\xff\x00\x03\x00\x00\x00\x00\x00\x00\x00\x00\x00\x00\x00\x00\x00\x00\x00\x00\x00",
+    );
 }
