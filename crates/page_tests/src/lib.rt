@@ -4,8 +4,14 @@
 #[cfg(test)]
 mod accesses;
 #[cfg(test)]
+mod calls;
+#[cfg(test)]
 mod records;
 #[cfg(test)]
 mod regions;
 #[cfg(test)]
 mod slots;
+
+/// What is said where memory is wanting.
+#[cfg(test)]
+const MEMORY: &str = "memory for a test";

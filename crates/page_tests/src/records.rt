@@ -3,9 +3,9 @@
 ghost use Rattle.std.specs.Prelude.{◌≡◌, ◌<◌, length};
 ghost use Rattle.token_table.specs.Records.{IsInPage};
 
+use crate::MEMORY;
 use smbd_base::{Right, Token};
 use std::process::Abort;
-use std::test::Fail;
 use token_table::{Claimed, Issue, Record, TokenTable, Withdraw};
 
 /// The record of the token's whole page.
@@ -60,8 +60,8 @@ fn is_stale(rt: &impl Abort, table: &mut TokenTable, token: Token) -> bool
 }
 
 #[test]
-fn finds_its_records(rt: HostRuntime) -> Result<(), Fail> {
-    let mut table = TokenTable::open(rt.alloc(), 64)?;
+fn finds_its_records(rt: HostRuntime) {
+    let mut table = TokenTable::open(rt.alloc(), 64).expect(&rt, MEMORY);
     for turn in 0u32..192 {
         let token = Token::new((turn % 64) as u8, turn / 64 + 1);
         assert!(rt; table.issue(whole(token)) == Issue::Done);
@@ -72,5 +72,4 @@ fn finds_its_records(rt: HostRuntime) -> Result<(), Fail> {
         assert!(rt; table.withdraw(token) == Withdraw::Stale);
     }
     assert!(rt; table.withdraw(Token::new(64, 1)) == Withdraw::Unknown);
-    Ok(())
 }
