@@ -5,3 +5,7 @@
 mod outside;
 #[cfg(test)]
 mod values;
+
+/// What is said where memory is wanting.
+#[cfg(test)]
+const MEMORY: &str = "memory for a test";

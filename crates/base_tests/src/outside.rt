@@ -1,13 +1,14 @@
 //! Sources, sinks, the gate and statuses.
 
+use crate::MEMORY;
 use smbd_outside::{
     Failed, Filled, Gate, MemorySink, MemorySource, OpenGate, ReadSource, Sink, Source, Status,
     WriteSink, fill, write_whole,
 };
+use std::alloc::Global;
 use std::io;
 use std::io::{Read, Write};
 use std::process::Abort;
-use std::test::Fail;
 
 const TEXT: &[u8; 5] = b"hello";
 
@@ -20,100 +21,102 @@ fn read_once<S: Source>(
 ) -> Result<usize, Failed> {
     let mut buf = [0u8; 8];
     assert!(rt; 0 < room && room <= 8);
-    let count = source.read(&mut buf[..room])?;
-    got.extend_from_slice(&buf[..count])
-        .ok()
-        .expect(rt, "no memory");
-    Ok(count)
+    let answer = source.read(&mut buf[..room]);
+    if let Ok(count) = answer {
+        got.extend_from_slice(&buf[..count]).expect(rt, MEMORY);
+    }
+    answer
 }
 
-/// One write of a piece, which isn't empty.
-fn write_once<K: Sink>(rt: &impl Abort, sink: &mut K, piece: &[u8]) -> Result<usize, Failed> {
-    let some = !piece.is_empty();
-    assert!(rt; some);
-    let done = sink.write(piece);
-    done
+/// Reads as often as there are answers, into so many bytes, which are given in all.
+fn read_each<S: Source>(
+    rt: &impl Abort,
+    alloc: Global,
+    source: &mut S,
+    room: usize,
+    answers: &[Result<usize, Failed>],
+    given: &[u8],
+) {
+    let mut got = Vec::new(alloc);
+    for answer in answers {
+        assert_eq!(rt;
+            read_once(rt, source, room, &mut got),
+            *answer,
+            "room {room}"
+        );
+    }
+    assert_eq!(rt; got.as_slice(), given);
+}
+
+/// Writes the text as often as there are answers.
+fn write_each<K: Sink>(rt: &impl Abort, sink: &mut K, answers: &[Result<usize, Failed>]) {
+    for answer in answers {
+        assert_eq!(rt; sink.write(TEXT), *answer, "{answers:?}");
+    }
 }
 
 #[test]
-fn a_memory_source_gives_its_bytes_and_fails_at_the_listed_calls(
-    rt: HostRuntime,
-) -> Result<(), Fail> {
-    const CASES: &[(u32, usize, &[u32], [Result<usize, Failed>; 6])] = &[
-        (9, 3, &[], [Ok(3), Ok(2), Ok(0), Ok(0), Ok(0), Ok(0)]),
-        (2, 8, &[2], [Ok(2), Err(Failed), Ok(2), Ok(1), Ok(0), Ok(0)]),
+fn a_memory_source_gives_its_bytes_and_fails_at_the_listed_calls(rt: HostRuntime) {
+    const CASES: &[(u32, usize, &[u32], &[Result<usize, Failed>])] = &[
+        (9, 3, &[], &[Ok(3), Ok(2), Ok(0), Ok(0)]),
+        (
+            2,
+            8,
+            &[2],
+            &[Ok(2), Err(Failed), Ok(2), Ok(1), Ok(0), Ok(0)],
+        ),
         (
             1,
             8,
             &[6, 0],
-            [Ok(1), Ok(1), Ok(1), Ok(1), Ok(1), Err(Failed)],
+            &[Ok(1), Ok(1), Ok(1), Ok(1), Ok(1), Err(Failed)],
         ),
         (
             5,
             8,
             &[3, 1, 1],
-            [Err(Failed), Ok(5), Err(Failed), Ok(0), Ok(0), Ok(0)],
+            &[Err(Failed), Ok(5), Err(Failed), Ok(0), Ok(0), Ok(0)],
         ),
     ];
     for &(most, room, fail, answers) in CASES {
         assert!(rt; 1 <= most);
-        let mut source = MemorySource::open(rt.alloc(), TEXT, most, fail)?;
-        let mut got = Vec::new(rt.alloc());
-        for answer in answers {
-            assert_eq!(rt;
-                read_once(&rt, &mut source, room, &mut got),
-                answer,
-                "most {most}"
-            );
-        }
-        assert_eq!(rt; got.as_slice(), TEXT.as_slice());
+        let mut source = MemorySource::open(rt.alloc(), TEXT, most, fail).expect(&rt, MEMORY);
+        read_each(&rt, rt.alloc(), &mut source, room, answers, TEXT);
     }
-    Ok(())
 }
 
 #[test]
-fn a_memory_sink_takes_bytes_and_fails_at_the_listed_calls_and_where_it_is_full(
-    rt: HostRuntime,
-) -> Result<(), Fail> {
-    const CASES: &[(u32, u32, &[u32], [Result<usize, Failed>; 4], &[u8])] = &[
+fn a_memory_sink_takes_bytes_and_fails_at_the_listed_calls_and_where_it_is_full(rt: HostRuntime) {
+    const CASES: &[(u32, u32, &[u32], &[Result<usize, Failed>], &[u8])] = &[
         (
             9,
             9,
             &[],
-            [Ok(5), Ok(4), Err(Failed), Err(Failed)],
+            &[Ok(5), Ok(4), Err(Failed), Err(Failed)],
             b"hellohell",
         ),
         (
             9,
             1,
             &[1, 3],
-            [Err(Failed), Ok(1), Err(Failed), Ok(1)],
+            &[Err(Failed), Ok(1), Err(Failed), Ok(1)],
             b"hh",
         ),
         (
             4,
             3,
             &[2],
-            [Ok(3), Err(Failed), Ok(1), Err(Failed)],
+            &[Ok(3), Err(Failed), Ok(1), Err(Failed)],
             b"helh",
         ),
-        (
-            0,
-            1,
-            &[],
-            [Err(Failed), Err(Failed), Err(Failed), Err(Failed)],
-            b"",
-        ),
+        (0, 1, &[], &[Err(Failed), Err(Failed)], b""),
     ];
     for &(room, most, fail, answers, taken) in CASES {
         assert!(rt; 1 <= most);
-        let mut sink = MemorySink::open(rt.alloc(), room, most, fail)?;
-        for answer in answers {
-            assert_eq!(rt; write_once(&rt, &mut sink, TEXT), answer, "room {room}");
-        }
+        let mut sink = MemorySink::open(rt.alloc(), room, most, fail).expect(&rt, MEMORY);
+        write_each(&rt, &mut sink, answers);
         assert_eq!(rt; sink.taken(), taken);
     }
-    Ok(())
 }
 
 /// Fails at every second call, from the first on, and gives the byte 7 at each other one.
@@ -139,23 +142,13 @@ impl Read for Stumbles {
 }
 
 #[test]
-fn a_read_source_hands_on_what_its_reader_gives_and_each_error(
-    rt: HostRuntime,
-) -> Result<(), Fail> {
+fn a_read_source_hands_on_what_its_reader_gives_and_each_error(rt: HostRuntime) {
+    const STUMBLING: &[Result<usize, Failed>] = &[Err(Failed), Ok(1), Err(Failed), Ok(1)];
+    const WHOLE: &[Result<usize, Failed>] = &[Ok(3), Ok(2), Ok(0)];
     let mut source = ReadSource::over(Stumbles { calls: 0 });
-    let mut got = Vec::new(rt.alloc());
-    for answer in [Err(Failed), Ok(1), Err(Failed), Ok(1)] {
-        assert_eq!(rt; read_once(&rt, &mut source, 3, &mut got), answer);
-    }
-    assert_eq!(rt; got.as_slice(), [7, 7].as_slice());
-
+    read_each(&rt, rt.alloc(), &mut source, 3, STUMBLING, &[7, 7]);
     let mut source = ReadSource::over(TEXT.as_slice());
-    let mut got = Vec::new(rt.alloc());
-    for answer in [Ok(3), Ok(2), Ok(0)] {
-        assert_eq!(rt; read_once(&rt, &mut source, 3, &mut got), answer);
-    }
-    assert_eq!(rt; got.as_slice(), TEXT.as_slice());
-    Ok(())
+    read_each(&rt, rt.alloc(), &mut source, 3, WHOLE, TEXT);
 }
 
 /// Takes no byte at its first call, fails at the second, and takes two bytes at most from then on.
@@ -185,23 +178,20 @@ impl Write for Hesitates<'_> {
 }
 
 #[test]
-fn a_write_sink_fails_where_its_writer_errs_or_takes_nothing(rt: HostRuntime) -> Result<(), Fail> {
+fn a_write_sink_fails_where_its_writer_errs_or_takes_nothing(rt: HostRuntime) {
     let mut got = Vec::new(rt.alloc());
     let mut sink = WriteSink::over(Hesitates {
         calls: 0,
         got: &mut got,
     });
-    for answer in [Err(Failed), Err(Failed), Ok(2)] {
-        assert_eq!(rt; write_once(&rt, &mut sink, TEXT), answer);
-    }
+    write_each(&rt, &mut sink, &[Err(Failed), Err(Failed), Ok(2)]);
     assert_eq!(rt; write_whole(&mut sink, TEXT), Ok(()));
     drop(sink);
     assert_eq!(rt; got.as_slice(), b"hehello".as_slice());
-    Ok(())
 }
 
 #[test]
-fn a_whole_piece_is_written_or_a_front_of_it(rt: HostRuntime) -> Result<(), Fail> {
+fn a_whole_piece_is_written_or_a_front_of_it(rt: HostRuntime) {
     const CASES: &[(u32, &[u32], &[u8], Result<(), Failed>, &[u8])] = &[
         (9, &[], b"hello", Ok(()), b"hello"),
         (9, &[], b"", Ok(()), b""),
@@ -209,15 +199,30 @@ fn a_whole_piece_is_written_or_a_front_of_it(rt: HostRuntime) -> Result<(), Fail
         (4, &[], b"hello", Err(Failed), b"hell"),
     ];
     for &(room, fail, piece, answer, taken) in CASES {
-        let mut sink = MemorySink::open(rt.alloc(), room, 1, fail)?;
+        let mut sink = MemorySink::open(rt.alloc(), room, 1, fail).expect(&rt, MEMORY);
         assert_eq!(rt; write_whole(&mut sink, piece), answer);
         assert_eq!(rt; sink.taken(), taken);
     }
-    Ok(())
+}
+
+/// Fills a buffer that begins with a `-`.
+fn fill_after_dash(
+    rt: &impl Abort,
+    alloc: Global,
+    source: &mut MemorySource,
+    most: usize,
+    answer: Result<Filled, Failed>,
+    bytes: &[u8],
+) {
+    let mut got = Vec::with_capacity(alloc, 8).expect(rt, MEMORY);
+    got.push(b'-').expect(rt, MEMORY);
+    assert!(rt; 1 <= most && most <= 8);
+    assert_eq!(rt; fill(source, &mut got, most), answer, "most {most}");
+    assert_eq!(rt; got.as_slice(), bytes);
 }
 
 #[test]
-fn a_buffer_is_filled_until_it_is_full_or_the_source_ends(rt: HostRuntime) -> Result<(), Fail> {
+fn a_buffer_is_filled_until_it_is_full_or_the_source_ends(rt: HostRuntime) {
     const CASES: &[(&[u32], usize, Result<Filled, Failed>, &[u8])] = &[
         (&[], 4, Ok(Filled::Full), b"-hel"),
         (&[], 6, Ok(Filled::Full), b"-hello"),
@@ -226,19 +231,14 @@ fn a_buffer_is_filled_until_it_is_full_or_the_source_ends(rt: HostRuntime) -> Re
         (&[3], 8, Err(Failed), b"-he"),
     ];
     for &(fail, most, answer, bytes) in CASES {
-        let mut source = MemorySource::open(rt.alloc(), TEXT, 1, fail)?;
-        let mut got = Vec::with_capacity(rt.alloc(), 8)?;
-        got.push(b'-')?;
-        assert!(rt; 1 <= most && most <= 8);
-        assert_eq!(rt; fill(&mut source, &mut got, most), answer, "most {most}");
-        assert_eq!(rt; got.as_slice(), bytes);
+        let mut source = MemorySource::open(rt.alloc(), TEXT, 1, fail).expect(&rt, MEMORY);
+        fill_after_dash(&rt, rt.alloc(), &mut source, most, answer, bytes);
     }
-    Ok(())
 }
 
 #[test]
-fn each_status_has_its_code_and_its_text(rt: HostRuntime) -> Result<(), Fail> {
-    let cases = [
+fn each_status_has_its_code_and_its_text(rt: HostRuntime) {
+    const CASES: &[(Status, u8, &str)] = &[
         (Status::Done, 0, ""),
         (Status::Usage, 2, "smbd: usage\n"),
         (Status::ReadFault, 3, "smbd: the source failed\n"),
@@ -247,17 +247,19 @@ fn each_status_has_its_code_and_its_text(rt: HostRuntime) -> Result<(), Fail> {
         (Status::TooLong, 6, "smbd: more than 16777216 bytes\n"),
         (Status::Cut, 7, "smbd: the link was cut\n"),
         (
-            Status::BadInput { line: u64::MAX },
+            Status::BadInput {
+                line: 18_446_744_073_709_551_615,
+            },
             8,
             "smbd: line 18446744073709551615 is not understood\n",
         ),
         (Status::NoMemory, 9, "smbd: no memory\n"),
     ];
-    for (status, code, text) in cases {
+    for &(status, code, text) in CASES {
         assert_eq!(rt; status.code(), code);
-        assert_eq!(rt; status.text().to_string(rt.alloc())?.as_str(), text);
+        let told = status.text().to_string(rt.alloc()).expect(&rt, MEMORY);
+        assert_eq!(rt; told.as_str(), text);
     }
-    Ok(())
 }
 
 /// A part that stands before each of the nine steps.

@@ -1,7 +1,7 @@
 //! Limits, frames and messages.
 
+use crate::MEMORY;
 use smbd_base::{EndId, EndLimits, Frame, LimitFault, Message};
-use std::test::Fail;
 
 #[test]
 fn limits_lie_in_their_ranges(rt: HostRuntime) {
@@ -34,8 +34,8 @@ fn limits_lie_in_their_ranges(rt: HostRuntime) {
 }
 
 #[test]
-fn a_frame_grants_the_credits_of_its_kind(rt: HostRuntime) -> Result<(), Fail> {
-    let bytes: &[u8] = b"\x00\x01\x02\x03\x04\x05\x06\x07\x08\x09\x0a\x0b\x0c";
+fn a_frame_grants_the_credits_of_its_kind(rt: HostRuntime) {
+    const BYTES: &[u8; 13] = b"\x00\x01\x02\x03\x04\x05\x06\x07\x08\x09\x0a\x0b\x0c";
     const CASES: &[(EndId, bool, usize, u16)] = &[
         (EndId::Client, true, 13, 0),
         (EndId::Server, true, 13, 0x0b0a),
@@ -47,25 +47,25 @@ fn a_frame_grants_the_credits_of_its_kind(rt: HostRuntime) -> Result<(), Fail> {
         (EndId::Server, false, 0, 0),
     ];
     for &(from, first, length, granted) in CASES {
-        assert!(rt; length <= bytes.len());
-        let frame = Frame::copy_of(rt.alloc(), &bytes[..length])?;
+        assert!(rt; length <= 13);
+        let frame = Frame::copy_of(rt.alloc(), &BYTES[..length]).expect(&rt, MEMORY);
         assert_eq!(rt;
             frame.granted(from, first),
             granted,
             "{from:?}, {length} bytes"
         );
-        assert_eq!(rt; frame.bytes(), &bytes[..length]);
+        assert_eq!(rt; frame.bytes(), &BYTES[..length]);
     }
-    Ok(())
 }
 
 #[test]
-fn a_message_keeps_its_bytes(rt: HostRuntime) -> Result<(), Fail> {
-    for bytes in [b"abc".as_slice(), b"".as_slice()] {
-        let message = Message::copy_of(rt.alloc(), bytes)?;
-        assert_eq!(rt; message.clone()?.bytes(), bytes);
+fn a_message_keeps_its_bytes(rt: HostRuntime) {
+    const CASES: &[&[u8]] = &[b"abc", b""];
+    for &bytes in CASES {
+        let message = Message::copy_of(rt.alloc(), bytes).expect(&rt, MEMORY);
+        let again = message.clone().expect(&rt, MEMORY);
+        assert_eq!(rt; again.bytes(), bytes);
         assert_eq!(rt; message.len(), bytes.len());
         assert_eq!(rt; message.is_empty(), bytes.is_empty());
     }
-    Ok(())
 }
