@@ -189,18 +189,23 @@ fn follow(rt: &impl Abort, max: u16, steps: &[Step]) -> Ledger {
     ledger
 }
 
+/// Looks at what a ledger holds and may spend.
+fn stands(rt: &impl Abort, ledger: &Ledger, row: &Row<'_>) {
+    let name = row.name;
+    let counts = (ledger.held(), ledger.outstanding(), ledger.grantable());
+    assert!(rt; counts == row.counts, "{name}");
+    for grant in row.may {
+        assert!(rt; ledger.may_spend(*grant), "{name}: {grant}");
+    }
+    for grant in row.may_not {
+        assert!(rt; !ledger.may_spend(*grant), "{name}: {grant}");
+    }
+}
+
 #[test]
 fn ledgers_count_and_keep_the_last_credit(rt: HostRuntime) {
     for row in ROWS {
-        let name = row.name;
         let ledger = follow(&rt, row.max, row.steps);
-        let counts = (ledger.held(), ledger.outstanding(), ledger.grantable());
-        assert_eq!(rt; counts, row.counts, "{name}");
-        for grant in row.may {
-            assert!(rt; ledger.may_spend(*grant), "{name}: {grant}");
-        }
-        for grant in row.may_not {
-            assert!(rt; !ledger.may_spend(*grant), "{name}: {grant}");
-        }
+        stands(&rt, &ledger, row);
     }
 }
