@@ -63,29 +63,34 @@ fn reads_lists(rt: HostRuntime) {
     const BYTES: &[u8; 40] =
         b"\x00\x10\x00\x00\x00\x00\x00\x00\x01\x01\x00\x00\x00\x10\x00\x00\x00\x10\x00\x00\x00\x00\x00\x00\x01\x01\x00\x00\x00\x10\x00\x00\x00\x00\x00\x00\x00\x00\x00\x00";
     let both = read_list(rt.alloc(), BYTES, 2).expect(&rt, MEMORY);
-    assert_eq!(rt; both.list(), [of(4096, 4096), of(4096, 4096)].as_slice());
+    assert!(rt; both.list() == [of(4096, 4096), of(4096, 4096)].as_slice());
     assert!(rt; !disjoint(&both));
     let short = ListFault::At {
         place: 2,
         fault: DescriptorFault::Short,
     };
-    assert_eq!(rt; read_list(rt.alloc(), BYTES, 4).err(), Some(short));
+    assert!(rt; read_list(rt.alloc(), BYTES, 4).err() == Some(short));
 }
 
 #[test]
 fn finds_places_in_two_descriptors(rt: HostRuntime) {
-    let cases: [(&[Descriptor], bool); 7] = [
-        (&[of(0, 10), of(10, 5), of(20, 1)], true),
-        (&[of(20, 1), of(0, 10), of(10, 5)], true),
-        (&[of(0, 10), of(9, 5), of(20, 1)], false),
-        (&[of(20, 1), of(0, 10), of(3, 18)], false),
-        (&[of(5, 0), of(0, 10), of(10, 5)], true),
-        (&[of(TOP, MOST), of(TOP, 0), of(0, 1)], true),
-        (&[of(TOP, MOST), of(TOP, 1), of(0, 1)], false),
+    const CASES: &[((u64, u32), (u64, u32), (u64, u32), bool)] = &[
+        ((0, 10), (10, 5), (20, 1), true),
+        ((20, 1), (0, 10), (10, 5), true),
+        ((0, 10), (9, 5), (20, 1), false),
+        ((20, 1), (0, 10), (3, 18), false),
+        ((5, 0), (0, 10), (10, 5), true),
+        ((TOP, MOST), (TOP, 0), (0, 1), true),
+        ((TOP, MOST), (TOP, 1), (0, 1), false),
     ];
-    for (list, apart) in cases {
-        let copied = Descriptors::copy_of(rt.alloc(), list).expect(&rt, MEMORY);
-        assert_eq!(rt; disjoint(&copied), apart, "at {list:?}");
+    for &(first, second, third, apart) in CASES {
+        let list = [
+            of(first.0, first.1),
+            of(second.0, second.1),
+            of(third.0, third.1),
+        ];
+        let copied = Descriptors::copy_of(rt.alloc(), &list).expect(&rt, MEMORY);
+        assert!(rt; disjoint(&copied) == apart, "at {list:?}");
     }
 }
 
