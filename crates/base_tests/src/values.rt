@@ -2,6 +2,8 @@
 
 use crate::MEMORY;
 use smbd_base::{EndId, EndLimits, Frame, LimitFault, Message};
+use std::alloc::Global;
+use std::process::Abort;
 
 #[test]
 fn limits_lie_in_their_ranges(rt: HostRuntime) {
@@ -33,6 +35,13 @@ fn limits_lie_in_their_ranges(rt: HostRuntime) {
     assert_eq!(rt; usual, Ok(EndLimits::usual()));
 }
 
+/// The credits that a frame of these bytes grants.
+fn granted_by(rt: &impl Abort, alloc: Global, bytes: &[u8], from: EndId, first: bool) -> u16 {
+    let frame = Frame::copy_of(alloc, bytes).expect(rt, MEMORY);
+    assert!(rt; frame.bytes() == bytes);
+    frame.granted(from, first)
+}
+
 #[test]
 fn a_frame_grants_the_credits_of_its_kind(rt: HostRuntime) {
     const BYTES: &[u8; 13] = b"\x00\x01\x02\x03\x04\x05\x06\x07\x08\x09\x0a\x0b\x0c";
@@ -48,24 +57,27 @@ fn a_frame_grants_the_credits_of_its_kind(rt: HostRuntime) {
     ];
     for &(from, first, length, granted) in CASES {
         assert!(rt; length <= 13);
-        let frame = Frame::copy_of(rt.alloc(), &BYTES[..length]).expect(&rt, MEMORY);
         assert_eq!(rt;
-            frame.granted(from, first),
+            granted_by(&rt, rt.alloc(), &BYTES[..length], from, first),
             granted,
             "{from:?}, {length} bytes"
         );
-        assert_eq!(rt; frame.bytes(), &BYTES[..length]);
     }
+}
+
+/// Makes a message of these bytes, and another of it.
+fn keep(rt: &impl Abort, alloc: Global, bytes: &[u8]) {
+    let message = Message::copy_of(alloc, bytes).expect(rt, MEMORY);
+    let again = message.clone().expect(rt, MEMORY);
+    assert!(rt; again.bytes() == bytes);
+    assert!(rt; message.len() == bytes.len());
+    assert!(rt; message.is_empty() == bytes.is_empty());
 }
 
 #[test]
 fn a_message_keeps_its_bytes(rt: HostRuntime) {
     const CASES: &[&[u8]] = &[b"abc", b""];
     for &bytes in CASES {
-        let message = Message::copy_of(rt.alloc(), bytes).expect(&rt, MEMORY);
-        let again = message.clone().expect(&rt, MEMORY);
-        assert_eq!(rt; again.bytes(), bytes);
-        assert_eq!(rt; message.len(), bytes.len());
-        assert_eq!(rt; message.is_empty(), bytes.is_empty());
+        keep(&rt, rt.alloc(), bytes);
     }
 }
