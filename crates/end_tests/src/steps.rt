@@ -1,14 +1,21 @@
 //! What one end does, step by step, as tables.
+//!
+//! A test ends at once where memory is wanting: with a `?` beside values that are let go its proof would be dear.
 
 mod long;
 mod negotiation;
 mod sizes;
 
-use connection_core::{Agreed, End, Next, SubmitFault, TakeFault};
-use smbd_base::{Broken, EndId, EndLimits, Frame, Message, NegotiateFault, NoMemory};
+use connection_core::{Agreed, End, Next, SubmitFault, SubmitRefused, TakeFault, TakeRefused};
+use smbd_base::{Broken, EndId, EndLimits, Frame, Message, NegotiateFault};
 use std::alloc::Global;
 use std::process::Abort;
-use std::test::Fail;
+
+/// What is said where memory is wanting.
+const MEMORY: &str = "memory for a test";
+
+/// What is said where limits are not lawful.
+const LAWFUL: &str = "lawful limits";
 
 /// The negotiate request and response of the usual limits.
 const REQUEST: &[u8] =
@@ -75,7 +82,7 @@ const FIVE_LEFT: &[u8] =
     b"\xff\x00\xff\x00\x00\x00\x00\x00\x05\x00\x00\x00\x18\x00\x00\x00\x03\x00\x00\x00\x00\x00\x00\x00abc";
 
 /// What is done to an end, and what it answers.
-#[derive(Clone, Copy, Debug)]
+#[derive(Clone, Copy)]
 enum Step<'a> {
     /// It does what comes next, and posts so many receives.
     Posts(u16),
@@ -105,25 +112,66 @@ enum Step<'a> {
     Lasts(usize),
 }
 
-fn drive(end: &mut End) -> Result<Next, NoMemory> {
-    let next = end.next()?;
+/// Whether an event comes next.
+fn is_event(next: &Next) -> bool {
+    matches!(next, Next::Post(_) | Next::Emit(_))
+}
+
+/// Whether what comes next is this step.
+fn is_next(next: &Next, step: &Step<'_>) -> bool {
+    match step {
+        Step::Posts(n) => matches!(next, Next::Post(count) if count == n),
+        Step::Sends(bytes) => matches!(next, Next::Emit(frame) if frame.bytes() == *bytes),
+        Step::Idles => matches!(next, Next::Idle),
+        Step::Closes => matches!(next, Next::Close),
+        _ => false,
+    }
+}
+
+/// Does what comes next.
+fn drive(rt: &impl Abort, end: &mut End) -> Next {
+    let next = end.next().expect(rt, MEMORY);
     if let Next::Post(_) | Next::Emit(_) = &next {
         end.commit();
     }
-    Ok(next)
+    next
+}
+
+/// Whether the message was accepted, or handed back with this fault.
+fn is_accepted(
+    answer: &Result<(), SubmitRefused>,
+    bytes: &[u8],
+    expected: Option<SubmitFault>,
+) -> bool {
+    match answer {
+        Ok(()) => expected.is_none(),
+        Err(refused) => Some(refused.fault) == expected && refused.message.bytes() == bytes,
+    }
 }
 
 /// Whether the end accepts the message, or hands it back with this fault.
 fn submits(
+    rt: &impl Abort,
     alloc: Global,
     end: &mut End,
     bytes: &[u8],
     expected: Option<SubmitFault>,
-) -> Result<bool, NoMemory> {
-    Ok(match end.submit(Message::copy_of(alloc, bytes)?) {
-        Ok(()) => expected.is_none(),
-        Err(refused) => Some(refused.fault) == expected && refused.message.bytes() == bytes,
-    })
+) -> bool {
+    let answer = end.submit(Message::copy_of(alloc, bytes).expect(rt, MEMORY));
+    is_accepted(&answer, bytes, expected)
+}
+
+/// Whether the frame was taken and this message delivered, or the frame handed back with this fault.
+fn is_taken(
+    answer: &Result<Option<Message>, TakeRefused>,
+    bytes: &[u8],
+    expected: Result<Option<&[u8]>, TakeFault>,
+) -> bool {
+    match answer {
+        Ok(Some(message)) => expected == Ok(Some(message.bytes())),
+        Ok(None) => expected == Ok(None),
+        Err(refused) => expected == Err(refused.fault) && refused.frame.bytes() == bytes,
+    }
 }
 
 /// Whether the end takes the frame and delivers this message, or hands the frame back with this fault.
@@ -133,26 +181,22 @@ fn takes(
     end: &mut End,
     bytes: &[u8],
     expected: Result<Option<&[u8]>, TakeFault>,
-) -> Result<bool, NoMemory> {
+) -> bool {
     assert!(rt; end.ready());
-    Ok(match end.take(Frame::copy_of(alloc, bytes)?) {
-        Ok(Some(message)) => expected == Ok(Some(message.bytes())),
-        Ok(None) => expected == Ok(None),
-        Err(refused) => expected == Err(refused.fault) && refused.frame.bytes() == bytes,
-    })
+    let answer = end.take(Frame::copy_of(alloc, bytes).expect(rt, MEMORY));
+    is_taken(&answer, bytes, expected)
 }
 
-fn does(rt: &impl Abort, alloc: Global, end: &mut End, step: Step<'_>) -> Result<bool, NoMemory> {
-    Ok(match step {
-        Step::Posts(n) => matches!(drive(end)?, Next::Post(count) if count == n),
-        Step::Sends(bytes) => matches!(drive(end)?, Next::Emit(frame) if frame.bytes() == bytes),
-        Step::Idles => matches!(drive(end)?, Next::Idle),
-        Step::Closes => matches!(drive(end)?, Next::Close),
-        Step::Accepts(bytes) => submits(alloc, end, bytes, None)?,
-        Step::Declines(bytes, fault) => submits(alloc, end, bytes, Some(fault))?,
-        Step::Takes(bytes) => takes(rt, alloc, end, bytes, Ok(None))?,
-        Step::Delivers(bytes, message) => takes(rt, alloc, end, bytes, Ok(Some(message)))?,
-        Step::Refuses(bytes, fault) => takes(rt, alloc, end, bytes, Err(fault))?,
+fn does(rt: &impl Abort, alloc: Global, end: &mut End, step: &Step<'_>) -> bool {
+    match *step {
+        Step::Posts(_) | Step::Sends(_) | Step::Idles | Step::Closes => {
+            is_next(&drive(rt, end), step)
+        }
+        Step::Accepts(bytes) => submits(rt, alloc, end, bytes, None),
+        Step::Declines(bytes, fault) => submits(rt, alloc, end, bytes, Some(fault)),
+        Step::Takes(bytes) => takes(rt, alloc, end, bytes, Ok(None)),
+        Step::Delivers(bytes, message) => takes(rt, alloc, end, bytes, Ok(Some(message))),
+        Step::Refuses(bytes, fault) => takes(rt, alloc, end, bytes, Err(fault)),
         Step::Cuts => {
             end.cut();
             true
@@ -162,7 +206,21 @@ fn does(rt: &impl Abort, alloc: Global, end: &mut End, step: Step<'_>) -> Result
         }
         Step::Settles(expected) => end.agreed() == expected,
         Step::Lasts(events) => end.history().len() == events,
-    })
+    }
+}
+
+/// Has the end do each step in turn.
+fn go(rt: &impl Abort, alloc: Global, name: &str, end: &mut End, steps: &[Step<'_>]) {
+    for (i, step) in steps.iter().enumerate() {
+        assert!(rt; does(rt, alloc, end, step), "{name}: step {i}");
+    }
+}
+
+fn open(rt: &impl Abort, alloc: Global, side: EndId, limits: EndLimits) -> End {
+    match side {
+        EndId::Client => End::open_client(alloc, limits).expect(rt, MEMORY),
+        EndId::Server => End::open_server(alloc, limits).expect(rt, MEMORY),
+    }
 }
 
 /// Has an end with these limits do each step in turn.
@@ -173,16 +231,18 @@ fn follow(
     side: EndId,
     limits: EndLimits,
     steps: &[Step<'_>],
-) -> Result<(), NoMemory> {
-    let mut end = match side {
-        EndId::Client => End::open_client(alloc, limits)?,
-        EndId::Server => End::open_server(alloc, limits)?,
-    };
-    for step in steps {
-        assert!(rt; does(rt, alloc, &mut end, *step)?, "{name}: {step:?}");
-    }
-    Ok(())
+) {
+    let mut end = open(rt, alloc, side, limits);
+    go(rt, alloc, name, &mut end, steps);
 }
+
+/// Limits of 3 credits, with the usual sizes.
+fn three_credits(rt: &impl Abort) -> EndLimits {
+    EndLimits::check(3, 1_364, 8_192, 1_048_576, 64).expect(rt, LAWFUL)
+}
+
+/// How a server of the usual limits negotiates.
+const OPENING: &[Step] = &[Step::Takes(REQUEST), Step::Posts(1), Step::Sends(RESPONSE)];
 
 /// What a server of the usual limits has agreed with a client of them.
 const AGREED: Agreed = Agreed {
@@ -199,7 +259,7 @@ const CLIENT_AGREED: Agreed = Agreed {
 };
 
 #[test]
-fn an_end_of_the_usual_limits(rt: HostRuntime) -> Result<(), Fail> {
+fn an_end_of_the_usual_limits(rt: HostRuntime) {
     use EndId::{Client, Server};
     use Step::*;
     const CASES: &[(&str, EndId, &[Step])] = &[
@@ -278,13 +338,12 @@ fn an_end_of_the_usual_limits(rt: HostRuntime) -> Result<(), Fail> {
         ),
     ];
     for &(name, side, steps) in CASES {
-        follow(&rt, rt.alloc(), name, side, EndLimits::usual(), steps)?;
+        follow(&rt, rt.alloc(), name, side, EndLimits::usual(), steps);
     }
-    Ok(())
 }
 
 #[test]
-fn an_end_of_three_credits(rt: HostRuntime) -> Result<(), Fail> {
+fn an_end_of_three_credits(rt: HostRuntime) {
     use EndId::{Client, Server};
     use Step::*;
     const CASES: &[(&str, EndId, &[Step])] = &[
@@ -374,18 +433,17 @@ fn an_end_of_three_credits(rt: HostRuntime) -> Result<(), Fail> {
             ],
         ),
     ];
-    let limits = EndLimits::check(3, 1_364, 8_192, 1_048_576, 64)?;
+    let limits = three_credits(&rt);
     for &(name, side, steps) in CASES {
-        follow(&rt, rt.alloc(), name, side, limits, steps)?;
+        follow(&rt, rt.alloc(), name, side, limits, steps);
     }
-    Ok(())
 }
 
 /// The bytes of a frame.
-fn framed(alloc: Global, head: &[u8], payload: &[u8]) -> Result<Vec<u8>, NoMemory> {
-    let mut frame = Vec::from_slice(alloc, head)?;
-    frame.extend_from_slice(payload)?;
-    Ok(frame)
+fn framed(rt: &impl Abort, alloc: Global, head: &[u8], payload: &[u8]) -> Vec<u8> {
+    let mut frame = Vec::from_slice(alloc, head).expect(rt, MEMORY);
+    frame.extend_from_slice(payload).expect(rt, MEMORY);
+    frame
 }
 
 /// A message of 3,000 bytes, and the frames in which an end of 3 credits sends it.
@@ -399,40 +457,37 @@ struct Pieces {
     short: Vec<u8>,
 }
 
-fn cut_in_three(alloc: Global) -> Result<Pieces, NoMemory> {
+fn cut_in_three(rt: &impl Abort, alloc: Global) -> Pieces {
     let (one, two, three) = ([1; 1_340], [2; 1_340], [3; 320]);
-    let mut message = framed(alloc, &one, &two)?;
-    message.extend_from_slice(&three)?;
-    Ok(Pieces {
+    let mut message = framed(rt, alloc, &one, &two);
+    message.extend_from_slice(&three).expect(rt, MEMORY);
+    Pieces {
         message,
-        first: framed(alloc, HEAD_1, &one)?,
-        second: framed(alloc, HEAD_2, &two)?,
-        third: framed(alloc, HEAD_3, &three)?,
-        short: framed(alloc, HEAD_2_SHORT, &two)?,
-    })
+        first: framed(rt, alloc, HEAD_1, &one),
+        second: framed(rt, alloc, HEAD_2, &two),
+        third: framed(rt, alloc, HEAD_3, &three),
+        short: framed(rt, alloc, HEAD_2_SHORT, &two),
+    }
 }
 
+/// How a server of 3 credits negotiates.
+const OPENING_3: &[Step] = &[
+    Step::Takes(REQUEST_3),
+    Step::Posts(1),
+    Step::Sends(RESPONSE_3),
+];
+
 /// Has a server of 3 credits negotiate, and then do each step in turn.
-fn serve(rt: &impl Abort, alloc: Global, name: &str, steps: &[Step<'_>]) -> Result<(), Fail> {
-    let limits = EndLimits::check(3, 1_364, 8_192, 1_048_576, 64)?;
-    let mut end = End::open_server(alloc, limits)?;
-    for step in [
-        Step::Takes(REQUEST_3),
-        Step::Posts(1),
-        Step::Sends(RESPONSE_3),
-    ] {
-        assert!(rt; does(rt, alloc, &mut end, step)?, "{name}: {step:?}");
-    }
-    for step in steps {
-        assert!(rt; does(rt, alloc, &mut end, *step)?, "{name}: {step:?}");
-    }
-    Ok(())
+fn serve(rt: &impl Abort, alloc: Global, name: &str, steps: &[Step<'_>]) {
+    let mut end = open(rt, alloc, EndId::Server, three_credits(rt));
+    go(rt, alloc, "negotiates", &mut end, OPENING_3);
+    go(rt, alloc, name, &mut end, steps);
 }
 
 #[test]
-fn a_message_is_sent_in_three_frames(rt: HostRuntime) -> Result<(), Fail> {
+fn a_message_is_sent_in_three_frames(rt: HostRuntime) {
     use Step::*;
-    let given = cut_in_three(rt.alloc())?;
+    let given = cut_in_three(&rt, rt.alloc());
     let (message, first, second, third) = (
         given.message.as_slice(),
         given.first.as_slice(),
@@ -458,15 +513,14 @@ fn a_message_is_sent_in_three_frames(rt: HostRuntime) -> Result<(), Fail> {
         Counts(2, 3, 0),
         Idles,
     ];
-    let limits = EndLimits::check(3, 1_364, 8_192, 1_048_576, 64)?;
-    follow(&rt, rt.alloc(), "sends", EndId::Client, limits, &steps)?;
-    Ok(())
+    let limits = three_credits(&rt);
+    follow(&rt, rt.alloc(), "sends", EndId::Client, limits, &steps);
 }
 
 #[test]
-fn a_message_is_delivered_once(rt: HostRuntime) -> Result<(), Fail> {
+fn a_message_is_delivered_once(rt: HostRuntime) {
     use Step::*;
-    let given = cut_in_three(rt.alloc())?;
+    let given = cut_in_three(&rt, rt.alloc());
     let (message, first, second, third) = (
         given.message.as_slice(),
         given.first.as_slice(),
@@ -485,7 +539,7 @@ fn a_message_is_delivered_once(rt: HostRuntime) -> Result<(), Fail> {
         Posts(1),
         Idles,
     ];
-    serve(&rt, rt.alloc(), "delivers", &steps)?;
+    serve(&rt, rt.alloc(), "delivers", &steps);
     let steps = [
         Takes(first),
         Posts(1),
@@ -498,13 +552,13 @@ fn a_message_is_delivered_once(rt: HostRuntime) -> Result<(), Fail> {
         Delivers(third, message),
         Posts(1),
     ];
-    serve(&rt, rt.alloc(), "an empty frame between", &steps)
+    serve(&rt, rt.alloc(), "an empty frame between", &steps);
 }
 
 #[test]
-fn a_piece_that_does_not_fit(rt: HostRuntime) -> Result<(), Fail> {
+fn a_piece_that_does_not_fit(rt: HostRuntime) {
     use Step::*;
-    let given = cut_in_three(rt.alloc())?;
+    let given = cut_in_three(&rt, rt.alloc());
     let steps = [
         Takes(given.first.as_slice()),
         Posts(1),
@@ -517,7 +571,7 @@ fn a_piece_that_does_not_fit(rt: HostRuntime) -> Result<(), Fail> {
         ),
         Closes,
     ];
-    serve(&rt, rt.alloc(), "one byte lacks", &steps)?;
+    serve(&rt, rt.alloc(), "one byte lacks", &steps);
     let steps = [
         Refuses(
             TOO_LONG,
@@ -528,52 +582,41 @@ fn a_piece_that_does_not_fit(rt: HostRuntime) -> Result<(), Fail> {
         ),
         Closes,
     ];
-    serve(&rt, rt.alloc(), "too long", &steps)?;
-    serve(
-        &rt,
-        rt.alloc(),
-        "the longest",
-        &[Takes(LONGEST), Posts(1), Idles],
-    )
+    serve(&rt, rt.alloc(), "too long", &steps);
+    let steps = [Takes(LONGEST), Posts(1), Idles];
+    serve(&rt, rt.alloc(), "the longest", &steps);
 }
 
-/// Has the end accept messages of so many bytes, or hand them back with this fault.
-fn submit_lengths(
+/// Has the end accept a message of so many bytes, or hand it back with this fault.
+fn submit_length(
     rt: &impl Abort,
     alloc: Global,
     end: &mut End,
-    cases: &[(usize, Option<SubmitFault>)],
-) -> Result<(), Fail> {
-    for (length, expected) in cases {
-        let bytes = vec![in alloc; 7; *length]?;
-        assert!(rt;
-            submits(alloc, end, &bytes, *expected)?,
-            "{length} bytes: {expected:?}"
-        );
-    }
-    Ok(())
+    length: usize,
+    expected: Option<SubmitFault>,
+) {
+    let bytes = vec![in alloc; 7; length].expect(rt, MEMORY);
+    assert!(rt; submits(rt, alloc, end, &bytes, expected), "{length} bytes");
 }
 
 #[test]
-fn the_longest_messages(rt: HostRuntime) -> Result<(), Fail> {
+fn the_longest_messages(rt: HostRuntime) {
+    let mut end = open(&rt, rt.alloc(), EndId::Client, three_credits(&rt));
+    submit_lengths(&rt, rt.alloc(), &mut end);
+}
+
+fn submit_lengths(rt: &impl Abort, alloc: Global, end: &mut End) {
     use SubmitFault::{Closed, Empty, TooLong};
-    let alloc = rt.alloc();
-    let limits = EndLimits::check(3, 1_364, 8_192, 1_048_576, 64)?;
-    let mut end = End::open_client(alloc, limits)?;
-    let before = [(0, Some(Empty)), (131_072, None), (131_073, Some(TooLong))];
-    submit_lengths(&rt, alloc, &mut end, &before)?;
-    for step in [Step::Sends(REQUEST_3), Step::Takes(RESPONSE_3)] {
-        submit_lengths(&rt, alloc, &mut end, &[(131_073, Some(TooLong))])?;
-        assert!(&rt; does(&rt, alloc, &mut end, step)?, "{step:?}");
-    }
-    let after = [
-        (0, Some(Empty)),
-        (1_048_576, None),
-        (1_048_577, Some(TooLong)),
-    ];
-    submit_lengths(&rt, alloc, &mut end, &after)?;
+    submit_length(rt, alloc, end, 0, Some(Empty));
+    submit_length(rt, alloc, end, 131_072, None);
+    submit_length(rt, alloc, end, 131_073, Some(TooLong));
+    go(rt, alloc, "requests", end, &[Step::Sends(REQUEST_3)]);
+    submit_length(rt, alloc, end, 131_073, Some(TooLong));
+    go(rt, alloc, "negotiates", end, &[Step::Takes(RESPONSE_3)]);
+    submit_length(rt, alloc, end, 0, Some(Empty));
+    submit_length(rt, alloc, end, 1_048_576, None);
+    submit_length(rt, alloc, end, 1_048_577, Some(TooLong));
     end.cut();
-    submit_lengths(&rt, alloc, &mut end, &[(1, Some(Closed))])?;
-    assert!(&rt; does(&rt, alloc, &mut end, Step::Idles)?);
-    Ok(())
+    submit_length(rt, alloc, end, 1, Some(Closed));
+    go(rt, alloc, "is cut", end, &[Step::Idles]);
 }

@@ -1,11 +1,8 @@
 //! Negotiations with peers of other limits, and with peers that say what an end does not accept.
 
-use super::{GRANTS_3, REQUEST, RESPONSE, Step, does, follow, takes};
-use connection_core::{Agreed, End, SubmitFault, TakeFault};
+use super::{GRANTS_3, LAWFUL, REQUEST, Step, follow, framed};
+use connection_core::{Agreed, SubmitFault, TakeFault};
 use smbd_base::{EndId, EndLimits, NegotiateFault};
-use std::alloc::Global;
-use std::process::Abort;
-use std::test::Fail;
 
 /// A request of version 0x0200, and the response that refuses it.
 const REQUEST_2: &[u8] =
@@ -34,43 +31,55 @@ const LARGEST_REQUEST: &[u8] =
     b"\x00\x00\xff\xff\xff\xff\xff\xff\xff\xff\xff\xff\xff\xff\xff\xff\xff\xff\xff\xff";
 
 #[test]
-fn a_server_responds_to_a_version_that_it_refuses(rt: HostRuntime) -> Result<(), Fail> {
+fn a_server_responds_to_a_version_that_it_refuses(rt: HostRuntime) {
+    use EndId::{Client, Server};
     use Step::*;
-    let version = TakeFault::Negotiate(NegotiateFault::Version);
-    let steps = [
-        Refuses(REQUEST_2, version),
-        Declines(b"abc", SubmitFault::Closed),
-        Settles(None),
-        Posts(1),
-        Counts(1, 0, 255),
-        Sends(REFUSAL),
-        Counts(0, 0, 255),
-        Closes,
-        Settles(None),
-        Cuts,
-        Idles,
+    const VERSION: TakeFault = TakeFault::Negotiate(NegotiateFault::Version);
+    const CASES: &[(&str, EndId, &[Step])] = &[
+        (
+            "declines",
+            Server,
+            &[
+                Refuses(REQUEST_2, VERSION),
+                Declines(b"abc", SubmitFault::Closed),
+                Settles(None),
+                Posts(1),
+                Counts(1, 0, 255),
+                Sends(REFUSAL),
+                Counts(0, 0, 255),
+                Closes,
+                Settles(None),
+                Cuts,
+                Idles,
+            ],
+        ),
+        (
+            "is cut",
+            Server,
+            &[Refuses(REQUEST_2, VERSION), Posts(1), Cuts, Idles],
+        ),
+        (
+            "is declined",
+            Client,
+            &[
+                Sends(REQUEST),
+                Refuses(REFUSAL, TakeFault::Negotiate(NegotiateFault::Status)),
+                Closes,
+                Cuts,
+                Idles,
+            ],
+        ),
     ];
-    let usual = EndLimits::usual();
-    follow(&rt, rt.alloc(), "declines", EndId::Server, usual, &steps)?;
-    let steps = [Refuses(REQUEST_2, version), Posts(1), Cuts, Idles];
-    follow(&rt, rt.alloc(), "is cut", EndId::Server, usual, &steps)?;
-    let steps = [
-        Sends(REQUEST),
-        Refuses(REFUSAL, TakeFault::Negotiate(NegotiateFault::Status)),
-        Closes,
-        Cuts,
-        Idles,
-    ];
-    follow(&rt, rt.alloc(), "is declined", EndId::Client, usual, &steps)?;
-    Ok(())
+    for &(name, side, steps) in CASES {
+        follow(&rt, rt.alloc(), name, side, EndLimits::usual(), steps);
+    }
 }
 
 #[test]
-fn ends_of_other_limits_settle_what_both_can(rt: HostRuntime) -> Result<(), Fail> {
+fn ends_of_other_limits_settle_what_both_can(rt: HostRuntime) {
     use Step::*;
     let message = [7; 500];
-    let mut first = Vec::from_slice(rt.alloc(), HEAD_488)?;
-    first.extend_from_slice(&[7; 488])?;
+    let first = framed(&rt, rt.alloc(), HEAD_488, &[7; 488]);
     let steps = [
         Accepts(&message),
         Sends(SMALL_REQUEST),
@@ -87,10 +96,9 @@ fn ends_of_other_limits_settle_what_both_can(rt: HostRuntime) -> Result<(), Fail
         Sends(&first),
         Counts(2, 3, 0),
     ];
-    let client = EndLimits::check(3, 8_192, 128, 131_072, 16)?;
-    follow(&rt, rt.alloc(), "client", EndId::Client, client, &steps)?;
-    let mut first = Vec::from_slice(rt.alloc(), HEAD_104)?;
-    first.extend_from_slice(&[7; 104])?;
+    let client = EndLimits::check(3, 8_192, 128, 131_072, 16).expect(&rt, LAWFUL);
+    follow(&rt, rt.alloc(), "client", EndId::Client, client, &steps);
+    let first = framed(&rt, rt.alloc(), HEAD_104, &[7; 104]);
     let steps = [
         Takes(SMALL_REQUEST),
         Posts(1),
@@ -109,136 +117,123 @@ fn ends_of_other_limits_settle_what_both_can(rt: HostRuntime) -> Result<(), Fail
         Posts(1),
         Sends(&first),
     ];
-    let server = EndLimits::check(5, 4_096, 512, 200_000, 16)?;
-    follow(&rt, rt.alloc(), "server", EndId::Server, server, &steps)?;
-    Ok(())
+    let server = EndLimits::check(5, 4_096, 512, 200_000, 16).expect(&rt, LAWFUL);
+    follow(&rt, rt.alloc(), "server", EndId::Server, server, &steps);
 }
 
-/// Has an end take this as its peer's first frame.
-fn hears(
-    rt: &impl Abort,
-    alloc: Global,
-    side: EndId,
-    frame: &[u8],
-    expected: Option<TakeFault>,
-) -> Result<(), Fail> {
-    let usual = EndLimits::usual();
-    let mut end = match side {
-        EndId::Client => End::open_client(alloc, usual)?,
-        EndId::Server => End::open_server(alloc, usual)?,
-    };
-    if side == EndId::Client {
-        assert!(rt; does(rt, alloc, &mut end, Step::Sends(REQUEST))?);
-    }
-    let answer = match expected {
-        None => Ok(None),
-        Some(fault) => Err(fault),
-    };
-    assert!(rt;
-        takes(rt, alloc, &mut end, frame, answer)?,
-        "{side:?}: {frame:?}"
-    );
-    let declines = expected == Some(TakeFault::Negotiate(NegotiateFault::Version))
-        && side == EndId::Server;
-    if declines || expected.is_none() {
-        assert!(rt; does(rt, alloc, &mut end, Step::Posts(1))?);
-    }
-    if declines {
-        assert!(rt; does(rt, alloc, &mut end, Step::Sends(REFUSAL))?);
-    }
-    if expected.is_some() {
-        assert!(rt; does(rt, alloc, &mut end, Step::Closes)?);
-    }
-    Ok(())
-}
-
+/// An end hands on what the reading of its peer's first frame says, and closes, or goes on.
 #[test]
-fn first_frames_of_one_byte_over_and_over(rt: HostRuntime) -> Result<(), Fail> {
-    for length in 0..41 {
-        for byte in [0, 0xff] {
-            let bytes = vec![in rt.alloc(); byte; length]?;
-            let request = if length < 20 {
-                NegotiateFault::Short
-            } else {
-                NegotiateFault::Version
-            };
-            let response = if length < 32 {
-                NegotiateFault::Short
-            } else if byte == 0 {
-                NegotiateFault::Version
-            } else {
-                NegotiateFault::Status
-            };
-            let server = Some(TakeFault::Negotiate(request));
-            hears(&rt, rt.alloc(), EndId::Server, &bytes, server)?;
-            let client = Some(TakeFault::Negotiate(response));
-            hears(&rt, rt.alloc(), EndId::Client, &bytes, client)?;
-        }
-    }
-    Ok(())
-}
-
-#[test]
-fn first_frames_with_one_field_at_its_bound(rt: HostRuntime) -> Result<(), Fail> {
+fn first_frames_are_refused_or_taken(rt: HostRuntime) {
+    use EndId::{Client, Server};
     use NegotiateFault::*;
-    let requests: [(usize, &[u8], Option<NegotiateFault>); 11] = [
-        (0, b"\x01\x01", Some(Version)),
-        (2, b"\xff\x00", Some(Version)),
-        (2, b"\x01\x01", None),
-        (6, b"\x00\x00", Some(Credits)),
-        (6, b"\x01\x00", None),
-        (6, b"\xff\xff", None),
-        (12, b"\x7f\x00\x00\x00", Some(ReceiveSize)),
-        (12, b"\x80\x00\x00\x00", None),
-        (16, b"\xff\xff\x01\x00", Some(FragmentedSize)),
-        (16, b"\x00\x00\x02\x00", None),
-        (0, LARGEST_REQUEST, None),
+    use Step::*;
+    use TakeFault::Negotiate;
+    const CASES: &[(&str, EndId, &[Step])] = &[
+        (
+            "a request for no credits",
+            Server,
+            &[
+                Refuses(
+                    b"\x00\x01\x00\x01\x00\x00\x00\x00\x54\x05\x00\x00\x00\x20\x00\x00\x00\x00\x10\x00",
+                    Negotiate(Credits),
+                ),
+                Closes,
+            ],
+        ),
+        (
+            "a request that receives too little of a message",
+            Server,
+            &[
+                Refuses(
+                    b"\x00\x01\x00\x01\x00\x00\xff\x00\x54\x05\x00\x00\x00\x20\x00\x00\xff\xff\x01\x00",
+                    Negotiate(FragmentedSize),
+                ),
+                Closes,
+            ],
+        ),
+        (
+            "a request with each number as small as it may be",
+            Server,
+            &[
+                Takes(
+                    b"\x00\x01\x00\x01\x00\x00\x01\x00\x00\x00\x00\x00\x80\x00\x00\x00\x00\x00\x02\x00",
+                ),
+                Posts(1),
+            ],
+        ),
+        (
+            "no response",
+            Client,
+            &[Sends(REQUEST), Refuses(b"", Negotiate(Short)), Closes],
+        ),
+        (
+            "a response of another version",
+            Client,
+            &[
+                Sends(REQUEST),
+                Refuses(
+                    b"\x00\x01\x00\x01\x01\x01\x00\x00\xff\x00\xff\x00\x00\x00\x00\x00\x00\x00\x10\x00\x54\x05\x00\x00\x00\x20\x00\x00\x00\x00\x10\x00",
+                    Negotiate(Version),
+                ),
+                Closes,
+            ],
+        ),
+        (
+            "a response that grants more than was asked for",
+            Client,
+            &[
+                Sends(REQUEST),
+                Refuses(
+                    b"\x00\x01\x00\x01\x00\x01\x00\x00\xff\x00\x00\x01\x00\x00\x00\x00\x00\x00\x10\x00\x54\x05\x00\x00\x00\x20\x00\x00\x00\x00\x10\x00",
+                    Negotiate(Granted),
+                ),
+                Closes,
+            ],
+        ),
+        (
+            "a response that sends more than is received",
+            Client,
+            &[
+                Sends(REQUEST),
+                Refuses(
+                    b"\x00\x01\x00\x01\x00\x01\x00\x00\xff\x00\xff\x00\x00\x00\x00\x00\x00\x00\x10\x00\x01\x20\x00\x00\x00\x20\x00\x00\x00\x00\x10\x00",
+                    Negotiate(SendSize),
+                ),
+                Closes,
+            ],
+        ),
+        (
+            "a response that receives too little",
+            Client,
+            &[
+                Sends(REQUEST),
+                Refuses(
+                    b"\x00\x01\x00\x01\x00\x01\x00\x00\xff\x00\xff\x00\x00\x00\x00\x00\x00\x00\x10\x00\x54\x05\x00\x00\x7f\x00\x00\x00\x00\x00\x10\x00",
+                    Negotiate(ReceiveSize),
+                ),
+                Closes,
+            ],
+        ),
+        (
+            "a response that grants one credit",
+            Client,
+            &[
+                Sends(REQUEST),
+                Takes(
+                    b"\x00\x01\x00\x01\x00\x01\x00\x00\xff\x00\x01\x00\x00\x00\x00\x00\x00\x00\x10\x00\x54\x05\x00\x00\x00\x20\x00\x00\x00\x00\x10\x00",
+                ),
+                Posts(1),
+                Counts(1, 0, 255),
+            ],
+        ),
     ];
-    for (place, part, fault) in requests {
-        let frame = with_part(&rt, rt.alloc(), REQUEST, place, part)?;
-        let expected = fault.map(TakeFault::Negotiate);
-        hears(&rt, rt.alloc(), EndId::Server, &frame, expected)?;
+    for &(name, side, steps) in CASES {
+        follow(&rt, rt.alloc(), name, side, EndLimits::usual(), steps);
     }
-    let responses: [(usize, &[u8], Option<NegotiateFault>); 12] = [
-        (4, b"\x01\x01", Some(Version)),
-        (8, b"\x00\x00", Some(Credits)),
-        (10, b"\x00\x00", Some(Granted)),
-        (10, b"\x01\x00", None),
-        (10, b"\x00\x01", Some(Granted)),
-        (12, b"\x01\x00\x00\x00", Some(Status)),
-        (20, b"\x00\x20\x00\x00", None),
-        (20, b"\x01\x20\x00\x00", Some(SendSize)),
-        (24, b"\x7f\x00\x00\x00", Some(ReceiveSize)),
-        (24, b"\x80\x00\x00\x00", None),
-        (28, b"\xff\xff\x01\x00", Some(FragmentedSize)),
-        (28, b"\x00\x00\x02\x00", None),
-    ];
-    for (place, part, fault) in responses {
-        let frame = with_part(&rt, rt.alloc(), RESPONSE, place, part)?;
-        let expected = fault.map(TakeFault::Negotiate);
-        hears(&rt, rt.alloc(), EndId::Client, &frame, expected)?;
-    }
-    Ok(())
-}
-
-/// A message with another part at this place.
-fn with_part(
-    rt: &impl Abort,
-    alloc: Global,
-    message: &[u8],
-    place: usize,
-    part: &[u8],
-) -> Result<Vec<u8>, Fail> {
-    assert!(rt; place <= message.len());
-    assert!(rt; part.len() <= message.len() - place);
-    let mut bytes = Vec::from_slice(alloc, &message[..place])?;
-    bytes.extend_from_slice(part)?;
-    bytes.extend_from_slice(&message[place + part.len()..])?;
-    Ok(bytes)
 }
 
 #[test]
-fn a_peer_of_the_largest_numbers(rt: HostRuntime) -> Result<(), Fail> {
+fn a_peer_of_the_largest_numbers(rt: HostRuntime) {
     use Step::*;
     let steps = [
         Takes(LARGEST_REQUEST),
@@ -255,7 +250,6 @@ fn a_peer_of_the_largest_numbers(rt: HostRuntime) -> Result<(), Fail> {
             credits_requested: 65_535,
         })),
     ];
-    let server = EndLimits::check(5, 4_096, 512, 200_000, 16)?;
-    follow(&rt, rt.alloc(), "largest", EndId::Server, server, &steps)?;
-    Ok(())
+    let server = EndLimits::check(5, 4_096, 512, 200_000, 16).expect(&rt, LAWFUL);
+    follow(&rt, rt.alloc(), "largest", EndId::Server, server, &steps);
 }

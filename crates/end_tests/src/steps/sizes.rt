@@ -1,13 +1,8 @@
 //! The longest frame that an end takes.
 
-use super::{REQUEST, RESPONSE, Step, does, takes};
-use connection_core::{End, TakeFault};
-use smbd_base::EndLimits;
-use std::alloc::Global;
-use std::process::Abort;
-
-/// What is said where memory is wanting.
-const MEMORY: &str = "memory for a test";
+use super::{OPENING, REQUEST, Step, follow, framed, go, open, takes};
+use connection_core::TakeFault;
+use smbd_base::{EndId, EndLimits};
 
 /// What stands before a payload of 8,168 bytes, and before one of 8,169.
 const HEAD_8192: &[u8] =
@@ -21,68 +16,34 @@ const OVERSIZE: TakeFault = TakeFault::Oversize {
     limit: 8_192,
 };
 
-/// These bytes, and sevens after them, as many as it takes.
-fn filled(rt: &impl Abort, alloc: Global, head: &[u8], length: usize) -> Vec<u8> {
-    let mut bytes = Vec::from_slice(alloc, head).expect(rt, MEMORY);
-    for _ in head.len()..length {
-        bytes.push(7).expect(rt, MEMORY);
-    }
-    bytes
-}
-
-/// Has the end do this.
-fn go(rt: &impl Abort, alloc: Global, end: &mut End, step: Step<'_>) {
-    assert!(rt; does(rt, alloc, end, step).expect(rt, MEMORY), "{step:?}");
-}
-
-/// Hands the end a frame: it delivers nothing, or refuses it so.
-fn hand(
-    rt: &impl Abort,
-    alloc: Global,
-    end: &mut End,
-    frame: &[u8],
-    fault: Option<TakeFault>,
-) -> bool {
-    let expected = match fault {
-        None => Ok(None),
-        Some(fault) => Err(fault),
-    };
-    takes(rt, alloc, end, frame, expected).expect(rt, MEMORY)
-}
-
 #[test]
 fn a_frame_may_have_the_receive_size(rt: HostRuntime) {
     let alloc = rt.alloc();
-    let longest = filled(&rt, alloc, HEAD_8192, 8_192);
-    let payload = filled(&rt, alloc, &[], 8_168);
-    let longer = filled(&rt, alloc, HEAD_8193, 8_193);
-    let mut end = End::open_server(alloc, EndLimits::usual()).expect(&rt, MEMORY);
-    go(&rt, alloc, &mut end, Step::Takes(REQUEST));
-    go(&rt, alloc, &mut end, Step::Posts(1));
-    go(&rt, alloc, &mut end, Step::Sends(RESPONSE));
-    let delivered = takes(&rt, alloc, &mut end, &longest, Ok(Some(&payload)));
-    assert!(&rt; delivered.expect(&rt, MEMORY));
-    go(&rt, alloc, &mut end, Step::Posts(1));
-    assert!(&rt; hand(&rt, alloc, &mut end, &longer, Some(OVERSIZE)));
-    go(&rt, alloc, &mut end, Step::Closes);
+    let payload = framed(&rt, alloc, &[], &[7; 8_168]);
+    let longest = framed(&rt, alloc, HEAD_8192, &payload);
+    let longer = framed(&rt, alloc, HEAD_8193, &[7; 8_169]);
+    let mut end = open(&rt, alloc, EndId::Server, EndLimits::usual());
+    go(&rt, alloc, "negotiates", &mut end, OPENING);
+    assert!(&rt; takes(&rt, alloc, &mut end, &longest, Ok(Some(&payload))));
+    go(&rt, alloc, "goes on", &mut end, &[Step::Posts(1)]);
+    let steps = [Step::Refuses(&longer, OVERSIZE), Step::Closes];
+    go(&rt, alloc, "longer", &mut end, &steps);
 }
 
 #[test]
 fn a_first_frame_may_have_the_receive_size(rt: HostRuntime) {
-    let alloc = rt.alloc();
-    let longest = filled(&rt, alloc, REQUEST, 8_192);
-    let mut end = End::open_server(alloc, EndLimits::usual()).expect(&rt, MEMORY);
-    assert!(&rt; hand(&rt, alloc, &mut end, &longest, None));
-    go(&rt, alloc, &mut end, Step::Posts(1));
+    let longest = framed(&rt, rt.alloc(), REQUEST, &[7; 8_172]);
+    let steps = [Step::Takes(&longest), Step::Posts(1)];
+    let usual = EndLimits::usual();
+    follow(&rt, rt.alloc(), "first", EndId::Server, usual, &steps);
 }
 
 #[test]
 fn a_first_frame_may_be_no_longer(rt: HostRuntime) {
-    let alloc = rt.alloc();
-    let longer = filled(&rt, alloc, REQUEST, 8_193);
-    let mut server = End::open_server(alloc, EndLimits::usual()).expect(&rt, MEMORY);
-    assert!(&rt; hand(&rt, alloc, &mut server, &longer, Some(OVERSIZE)));
-    let mut client = End::open_client(alloc, EndLimits::usual()).expect(&rt, MEMORY);
-    let early = TakeFault::OutOfTurn;
-    assert!(&rt; hand(&rt, alloc, &mut client, &longer, Some(early)));
+    let longer = framed(&rt, rt.alloc(), REQUEST, &[7; 8_173]);
+    let steps = [Step::Refuses(&longer, OVERSIZE)];
+    let usual = EndLimits::usual();
+    follow(&rt, rt.alloc(), "server", EndId::Server, usual, &steps);
+    let steps = [Step::Refuses(&longer, TakeFault::OutOfTurn)];
+    follow(&rt, rt.alloc(), "client", EndId::Client, usual, &steps);
 }
