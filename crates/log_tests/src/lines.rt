@@ -1,16 +1,21 @@
 //! Lines of a log, written and read.
+//!
+//! A test ends at once where memory is wanting: with a `?` beside values that are let go its proof would be dear.
 
-ghost use Rattle.std.specs.Prelude.{◌≤◌};
+ghost use Rattle.event_log.specs.Lines.{HasLawfulNumbers, logged};
 
 use event_log::LineFault::*;
 use event_log::{Line, LineFault, LogLine, Side, line_of, read_line, write_lines};
 use smbd_base::{Event, Frame, Message, Right};
 use smbd_outside::{Failed, MemorySink, Sink};
 use std::alloc::Global;
-use std::test::Fail;
+use std::process::Abort;
+
+/// What is said where memory is wanting.
+const MEMORY: &str = "memory for a test";
 
 /// A line in other words: its numbers, as its form has them.
-#[derive(Clone, Copy, Debug, PartialEq, Eq)]
+#[derive(Clone, Copy)]
 enum Said {
     Post(u16),
     Submit(u32),
@@ -23,32 +28,47 @@ enum Said {
     Unload(u32),
 }
 
-fn form_of(line: &LogLine) -> Said {
-    match line {
-        LogLine::Post(receives) => Said::Post(*receives),
-        LogLine::Submit(length) => Said::Submit(*length),
-        LogLine::Emit(frame) => Said::Emit(frame.len()),
-        LogLine::Take { number, length } => Said::Take(*number, *length),
-        LogLine::Cut => Said::Cut,
-        LogLine::Load {
-            token,
-            right,
-            length,
-        } => Said::Load(token.number(), *right, *length),
-        LogLine::Fetch { token, at, length } => Said::Fetch(token.number(), *at, *length),
-        LogLine::Place {
-            token,
-            order,
-            at,
-            length,
-        } => Said::Place(token.number(), *order, *at, *length),
-        LogLine::Unload { token } => Said::Unload(token.number()),
+/// Whether the line says this.
+fn is_said(line: &LogLine, said: Said) -> bool {
+    match said {
+        Said::Post(n) => matches!(line, LogLine::Post(receives) if *receives == n),
+        Said::Submit(n) => matches!(line, LogLine::Submit(length) if *length == n),
+        Said::Emit(n) => matches!(line, LogLine::Emit(frame) if frame.len() == n),
+        Said::Take(i, n) => {
+            matches!(line, LogLine::Take { number, length } if (*number, *length) == (i, n))
+        }
+        Said::Cut => matches!(line, LogLine::Cut),
+        Said::Load(t, r, n) => {
+            matches!(line, LogLine::Load { token, right, length }
+                if (token.number(), *right, *length) == (t, r, n))
+        }
+        Said::Fetch(t, a, n) => {
+            matches!(line, LogLine::Fetch { token, at, length }
+                if (token.number(), *at, *length) == (t, a, n))
+        }
+        Said::Place(t, o, a, n) => {
+            matches!(line, LogLine::Place { token, order, at, length }
+                if (token.number(), *order, *at, *length) == (t, o, a, n))
+        }
+        Said::Unload(t) => matches!(line, LogLine::Unload { token } if token.number() == t),
     }
 }
 
-fn read(alloc: Global, text: &str) -> Result<(Side, Said), LineFault> {
-    let (side, line) = read_line(alloc, text.as_bytes())?;
-    Ok((side, form_of(&line)))
+/// What a text is read as, or its fault.
+type Expected = Result<(Side, Said), LineFault>;
+
+fn is_read(answer: &Result<(Side, LogLine), LineFault>, expected: Expected) -> bool {
+    match answer {
+        Ok((side, line)) => match expected {
+            Ok((whose, said)) => *side == whose && is_said(line, said),
+            Err(_) => false,
+        },
+        Err(found) => matches!(expected, Err(fault) if *found == fault),
+    }
+}
+
+fn reads(alloc: Global, text: &[u8], expected: Expected) -> bool {
+    is_read(&read_line(alloc, text), expected)
 }
 
 #[test]
@@ -126,7 +146,10 @@ fn lines_read_as_what_they_say(rt: HostRuntime) {
         ("S take 1 1", Side::S, Said::Take(1, 1)),
     ];
     for &(text, side, line) in CASES {
-        assert_eq!(rt; read(rt.alloc(), text), Ok((side, line)), "{text}");
+        assert!(rt;
+            reads(rt.alloc(), text.as_bytes(), Ok((side, line))),
+            "{text}"
+        );
     }
 }
 
@@ -196,78 +219,90 @@ fn other_texts_have_their_first_fault(rt: HostRuntime) {
         ("C emit 0A", Hex),
     ];
     for &(text, fault) in CASES {
-        assert_eq!(rt; read(rt.alloc(), text), Err(fault), "{text}");
+        assert!(rt; reads(rt.alloc(), text.as_bytes(), Err(fault)), "{text}");
     }
 }
 
+/// The line of a frame with these digits, and what follows them.
+fn line_with(rt: &impl Abort, alloc: Global, digits: &[u8], after: &[u8]) -> Vec<u8> {
+    let mut text = Vec::from_slice(alloc, b"C emit ").expect(rt, MEMORY);
+    text.extend_from_slice(digits).expect(rt, MEMORY);
+    text.extend_from_slice(after).expect(rt, MEMORY);
+    text
+}
+
 #[test]
-fn the_longest_frame_has_8192_bytes(rt: HostRuntime) -> Result<(), Fail> {
+fn the_longest_frame_has_8192_bytes(rt: HostRuntime) {
     // digits of the frame, what follows them, and what the line is
-    const CASES: &[(usize, &str, Result<(Side, Said), LineFault>)] = &[
-        (8_192, "", Ok((Side::C, Said::Emit(8_192)))),
-        (8_193, "", Err(Hex)),
-        (8_192, "0", Err(Hex)),
-        (8_192, " 1", Err(Number)),
-        (8_197, "", Err(Long)),
+    const CASES: &[(&[u8], &[u8], Expected)] = &[
+        (&[b'0'; 16_384], b"", Ok((Side::C, Said::Emit(8_192)))),
+        (&[b'0'; 16_386], b"", Err(Hex)),
+        (&[b'0'; 16_384], b"0", Err(Hex)),
+        (&[b'0'; 16_384], b" 1", Err(Number)),
+        (&[b'0'; 16_394], b"", Err(Long)),
     ];
-    for &(bytes, after, answer) in CASES {
-        let mut text = String::from_str(rt.alloc(), "C emit ")?;
-        for _ in 0..bytes {
-            text.push_str("0f")?;
-        }
-        text.push_str(after)?;
-        assert_eq!(rt; read(rt.alloc(), text.as_str()), answer, "{bytes}");
+    for &(digits, after, expected) in CASES {
+        let text = line_with(&rt, rt.alloc(), digits, after);
+        assert!(rt; reads(rt.alloc(), &text, expected), "{}", digits.len());
     }
-    let mut letters = String::new(rt.alloc());
-    for _ in 0..16_400 {
-        letters.push_str("C")?;
-    }
-    assert_eq!(rt; read(rt.alloc(), letters.as_str()), Err(Side));
-    letters.push_str("C")?;
-    assert_eq!(rt; read(rt.alloc(), letters.as_str()), Err(Long));
-    Ok(())
+    assert!(rt; reads(rt.alloc(), &[b'C'; 16_400], Err(Side)));
+    assert!(rt; reads(rt.alloc(), &[b'C'; 16_401], Err(Long)));
+}
+
+fn is_written(
+    rt: &impl Abort,
+    alloc: Global,
+    side: Side,
+    event: Event,
+    number: u64,
+    wanted: &[u8],
+) -> bool
+    requires { HasLawfulNumbers side (logged number event) }
+{
+    let line = line_of(alloc, side, &event, number).expect(rt, MEMORY);
+    line.bytes() == wanted
 }
 
 #[test]
-fn events_are_written_as_lines(rt: HostRuntime) -> Result<(), Fail> {
-    let message = Message::copy_of(rt.alloc(), b"hello")?;
-    let frame = Frame::copy_of(rt.alloc(), &[1, 2])?;
-    let taken = Frame::copy_of(rt.alloc(), &[0xab, 0xcd, 0xef])?;
-    let lines = [
-        line_of(rt.alloc(), Side::C, &Event::Post(255), 1)?,
-        line_of(rt.alloc(), Side::S, &Event::Submit(message), 1)?,
-        line_of(rt.alloc(), Side::C, &Event::Emit(frame), 1)?,
-        line_of(rt.alloc(), Side::S, &Event::Take(taken), 12)?,
-        line_of(rt.alloc(), Side::S, &Event::Cut, 1)?,
-    ];
-    let wanted: [&[u8]; 5] = [
-        b"C post 255",
-        b"S submit 5",
-        b"C emit 0102",
-        b"S take 12 3",
-        b"S cut",
-    ];
-    for (line, bytes) in lines.iter().zip(wanted) {
-        assert_eq!(rt; line.bytes(), bytes);
-    }
-    Ok(())
+fn events_are_written_as_lines(rt: HostRuntime) {
+    let alloc = rt.alloc();
+    let message = Message::copy_of(alloc, b"hello").expect(&rt, MEMORY);
+    let sent = Frame::copy_of(alloc, &[1, 2]).expect(&rt, MEMORY);
+    let taken = Frame::copy_of(alloc, &[0xab, 0xcd, 0xef]).expect(&rt, MEMORY);
+    let (post, cut) = (Event::Post(255), Event::Cut);
+    let (submit, emit, take) = (
+        Event::Submit(message),
+        Event::Emit(sent),
+        Event::Take(taken),
+    );
+    assert!(&rt; is_written(&rt, alloc, Side::C, post, 1, b"C post 255"));
+    assert!(&rt; is_written(&rt, alloc, Side::S, submit, 1, b"S submit 5"));
+    assert!(&rt; is_written(&rt, alloc, Side::C, emit, 1, b"C emit 0102"));
+    assert!(&rt; is_written(&rt, alloc, Side::S, take, 12, b"S take 12 3"));
+    assert!(&rt; is_written(&rt, alloc, Side::S, cut, 1, b"S cut"));
+}
+
+/// Adds the line of this many receives twice.
+fn add_post(rt: &impl Abort, alloc: Global, lines: &mut Vec<Line>, receives: u16) {
+    assert!(rt; 1 <= receives && receives <= 255);
+    let line = line_of(alloc, Side::C, &Event::Post(receives), 1).expect(rt, MEMORY);
+    lines
+        .push(line.clone().expect(rt, MEMORY))
+        .expect(rt, MEMORY);
+    lines.push(line).expect(rt, MEMORY);
 }
 
 /// The lines `C post 1` to `C post` with the last number, each twice.
-fn posts(alloc: Global, last: u16) -> Result<Vec<Line>, Fail>
-    requires { last ≤ 255 }
-{
+fn posts(rt: &impl Abort, alloc: Global, last: u16) -> Vec<Line> {
     let mut lines = Vec::new(alloc);
     for receives in 1..=last {
-        let line = line_of(alloc, Side::C, &Event::Post(receives), 1)?;
-        lines.push(line.clone()?)?;
-        lines.push(line)?;
+        add_post(rt, alloc, &mut lines, receives);
     }
-    Ok(lines)
+    lines
 }
 
 #[test]
-fn lines_are_written_with_line_feeds(rt: HostRuntime) -> Result<(), Fail> {
+fn lines_are_written_with_line_feeds(rt: HostRuntime) {
     // the room of the log, what it takes at once and the calls that fail; then the answer, and what it took
     const CASES: &[(u32, u32, &[u32], Result<(), Failed>, &[u8])] = &[
         (
@@ -294,10 +329,10 @@ fn lines_are_written_with_line_feeds(rt: HostRuntime) -> Result<(), Fail> {
             b"C post 1\nC post 1\nC post 2\nC post 2",
         ),
     ];
-    let lines = posts(rt.alloc(), 2)?;
+    let lines = posts(&rt, rt.alloc(), 2);
     for &(room, most, fail, answer, taken) in CASES {
         assert!(rt; 1 <= most);
-        let mut log = MemorySink::open(rt.alloc(), room, most, fail)?;
+        let mut log = MemorySink::open(rt.alloc(), room, most, fail).expect(&rt, MEMORY);
         assert_eq!(rt;
             write_lines(lines.as_slice(), &mut log),
             answer,
@@ -305,7 +340,6 @@ fn lines_are_written_with_line_feeds(rt: HostRuntime) -> Result<(), Fail> {
         );
         assert_eq!(rt; log.taken(), taken, "room {room}");
     }
-    Ok(())
 }
 
 /// Counts its calls, and takes whole pieces.
@@ -330,14 +364,20 @@ impl Sink for Calls {
 }
 
 #[test]
-fn many_lines_are_written_in_few_pieces(rt: HostRuntime) -> Result<(), Fail> {
-    let frame = Frame::of_bytes(vec![in rt.alloc(); 0u8; 8_000]?)?;
-    let mut lines = posts(rt.alloc(), 255)?;
-    lines.push(line_of(rt.alloc(), Side::S, &Event::Emit(frame), 1)?)?;
-    lines.push(line_of(rt.alloc(), Side::S, &Event::Cut, 1)?)?;
+fn many_lines_are_written_in_few_pieces(rt: HostRuntime) {
+    let mut lines = posts(&rt, rt.alloc(), 255);
+    add_last(&rt, rt.alloc(), &mut lines);
     let mut log = Calls { count: 0, bytes: 0 };
     assert_eq!(rt; write_lines(lines.as_slice(), &mut log), Ok(()));
     assert_eq!(rt; log.bytes, 21_408);
     assert_eq!(rt; log.count, 2);
-    Ok(())
+}
+
+/// A frame of 8,000 bytes is sent, and the end is cut.
+fn add_last(rt: &impl Abort, alloc: Global, lines: &mut Vec<Line>) {
+    let frame = Frame::copy_of(alloc, &[0; 8_000]).expect(rt, MEMORY);
+    let sent = line_of(alloc, Side::S, &Event::Emit(frame), 1).expect(rt, MEMORY);
+    lines.push(sent).expect(rt, MEMORY);
+    let cut = line_of(alloc, Side::S, &Event::Cut, 1).expect(rt, MEMORY);
+    lines.push(cut).expect(rt, MEMORY);
 }

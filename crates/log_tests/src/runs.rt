@@ -3,14 +3,16 @@
 use EndId::{Client, Server};
 use event_log::Line;
 use run_log::lines_of_run;
-use smbd_base::{EndId, EndLimits, Message, NoMemory};
+use smbd_base::{EndId, EndLimits, Message};
 use std::alloc::Global;
 use std::process::Abort;
-use std::test::Fail;
 use world_core::{Choice, run_script};
 
+/// What is said where memory is wanting.
+const MEMORY: &str = "memory for a test";
+
 /// A choice without its message.
-#[derive(Clone, Copy, Debug)]
+#[derive(Clone, Copy)]
 enum Turn {
     /// The message `abc` is submitted.
     Submits(EndId),
@@ -19,28 +21,33 @@ enum Turn {
     Cuts(EndId),
 }
 
-fn choice_of(alloc: Global, turn: Turn) -> Result<Choice, NoMemory> {
-    Ok(match turn {
-        Turn::Submits(end) => Choice::Submit(end, Message::copy_of(alloc, b"abc")?),
+fn choice_of(rt: &impl Abort, alloc: Global, turn: Turn) -> Choice {
+    match turn {
+        Turn::Submits(end) => {
+            Choice::Submit(end, Message::copy_of(alloc, b"abc").expect(rt, MEMORY))
+        }
         Turn::Drives(end) => Choice::Drive(end),
         Turn::Takes(end) => Choice::Carry(end),
         Turn::Cuts(end) => Choice::Cut(end),
-    })
+    }
+}
+
+fn choices_of(rt: &impl Abort, alloc: Global, turns: &[Turn]) -> Vec<Choice> {
+    let mut choices = Vec::new(alloc);
+    for turn in turns {
+        choices.push(choice_of(rt, alloc, *turn)).expect(rt, MEMORY);
+    }
+    choices
 }
 
 /// The lines of two ends with the usual limits, of at most a hundred choices.
-fn lines_after(alloc: Global, turns: &[Turn]) -> Result<Vec<Line>, NoMemory> {
-    let mut choices = Vec::new(alloc);
-    for turn in turns {
-        choices.push(choice_of(alloc, *turn)?)?;
-    }
-    if choices.len() > 100 {
-        return Err(NoMemory);
-    }
+fn lines_after(rt: &impl Abort, alloc: Global, turns: &[Turn]) -> Vec<Line> {
+    let choices = choices_of(rt, alloc, turns);
+    assert!(rt; choices.len() <= 100);
     let limits = EndLimits::usual();
     let _ = limits.credits();
-    let world = run_script(alloc, limits, limits, &choices)?;
-    lines_of_run(alloc, &world)
+    let world = run_script(alloc, limits, limits, &choices).expect(rt, MEMORY);
+    lines_of_run(alloc, &world).expect(rt, MEMORY)
 }
 
 /// Choices, and the lines of their run.
@@ -104,15 +111,18 @@ const RUNS: [Case; 3] = [
     },
 ];
 
+fn are_lines(lines: &[Line], texts: &[&str]) -> bool {
+    lines.len() == texts.len()
+        && lines
+            .iter()
+            .zip(texts)
+            .all(|(line, text)| line.bytes() == text.as_bytes())
+}
+
 #[test]
-fn runs_have_their_lines(rt: HostRuntime) -> Result<(), Fail> {
-    let alloc = rt.alloc();
+fn runs_have_their_lines(rt: HostRuntime) {
     for run in &RUNS {
-        let lines = lines_after(alloc, run.turns)?;
-        assert_eq!(&rt; lines.len(), run.lines.len());
-        for (line, text) in lines.iter().zip(run.lines) {
-            assert!(&rt; line.bytes() == text.as_bytes(), "{text}");
-        }
+        let lines = lines_after(&rt, rt.alloc(), run.turns);
+        assert!(&rt; are_lines(&lines, run.lines), "{:?}", run.lines);
     }
-    Ok(())
 }
