@@ -1,14 +1,16 @@
 //! Copies over memory: the log byte for byte, faults of the outside, lengths at the bounds.
+//!
+//! A test ends at once where memory is wanting: with a `?` beside values that are let go its proof would be dear.
 
-ghost use Rattle.std.specs.Prelude.{◌≤◌};
-
-use smbd_base::NoMemory;
 use smbd_cli::{Word, run};
 use smbd_outside::{MemorySink, MemorySource, Status};
 use std::alloc::Global;
-use std::test::Fail;
+use std::process::Abort;
 
 mod sim;
+
+/// What is said where memory is wanting.
+const MEMORY: &str = "memory for a test";
 
 const PUT: [&str; 3] = ["put", "--channel", "none"];
 
@@ -90,32 +92,67 @@ struct Ran {
     log: MemorySink,
 }
 
-fn words_of(alloc: Global, texts: &[&str]) -> Result<Vec<Word>, NoMemory> {
+fn words_of(rt: &impl Abort, alloc: Global, texts: &[&str]) -> Vec<Word> {
     let mut words = Vec::new(alloc);
     for text in texts {
-        words.push(Word::copy_of(alloc, text)?)?;
+        let word = Word::copy_of(alloc, text).expect(rt, MEMORY);
+        words.push(word).expect(rt, MEMORY);
     }
-    Ok(words)
+    words
+}
+
+fn sink_of(rt: &impl Abort, alloc: Global, room: u32, most: u32, fails: &[u32]) -> MemorySink {
+    assert!(rt; 1 <= most);
+    MemorySink::open(alloc, room, most, fails).expect(rt, MEMORY)
+}
+
+fn source_of(
+    rt: &impl Abort,
+    alloc: Global,
+    bytes: &[u8],
+    most: u32,
+    fails: &[u32],
+) -> MemorySource {
+    assert!(rt; 1 <= most);
+    MemorySource::open(alloc, bytes, most, fails).expect(rt, MEMORY)
 }
 
 fn copied(
+    rt: &impl Abort,
     alloc: Global,
     texts: &[&str],
     bytes: &[u8],
     outside: Outside<'_>,
-) -> Result<Ran, NoMemory>
-    requires { 1 ≤ outside.most }
-{
-    let words = words_of(alloc, texts)?;
-    let mut source = MemorySource::open(alloc, bytes, outside.most, outside.source_fails)?;
-    let mut sink = MemorySink::open(alloc, outside.sink_room, outside.most, outside.sink_fails)?;
-    let mut log = MemorySink::open(alloc, outside.log_room, outside.most, outside.log_fails)?;
+) -> Ran {
+    let words = words_of(rt, alloc, texts);
+    let mut source = source_of(rt, alloc, bytes, outside.most, outside.source_fails);
+    let (room, fails) = (outside.sink_room, outside.sink_fails);
+    let mut sink = sink_of(rt, alloc, room, outside.most, fails);
+    let (room, fails) = (outside.log_room, outside.log_fails);
+    let mut log = sink_of(rt, alloc, room, outside.most, fails);
     let status = run(alloc, &words, &mut source, &mut sink, &mut log);
-    Ok(Ran { status, sink, log })
+    Ran { status, sink, log }
+}
+
+/// Runs the program: it ends so, and the sink and the log get this.
+fn check_run(
+    rt: &impl Abort,
+    alloc: Global,
+    texts: &[&str],
+    bytes: &[u8],
+    outside: Outside<'_>,
+    status: Status,
+    sink: &[u8],
+    log: &[u8],
+) {
+    let ran = copied(rt, alloc, texts, bytes, outside);
+    assert_eq!(rt; ran.status, status);
+    assert_eq!(rt; ran.sink.taken(), sink);
+    assert_eq!(rt; ran.log.taken(), log);
 }
 
 #[test]
-fn a_copy_gives_its_bytes_and_tells_its_faults(rt: HostRuntime) -> Result<(), Fail> {
+fn a_copy_gives_its_bytes_and_tells_its_faults(rt: HostRuntime) {
     const BY_ONE: Outside<'static> = Outside { most: 1, ..FAIR };
     const CASES: &[(&[u8], Outside<'static>, Status, &[u8], &[u8])] = &[
         (b"", FAIR, Status::Done, b"", LOG_OF_NOTHING),
@@ -183,22 +220,17 @@ fn a_copy_gives_its_bytes_and_tells_its_faults(rt: HostRuntime) -> Result<(), Fa
         ),
     ];
     for &(bytes, outside, status, sink, log) in CASES {
-        assert!(rt; 1 <= outside.most);
-        let ran = copied(rt.alloc(), &PUT, bytes, outside)?;
-        assert_eq!(rt; ran.status, status);
-        assert_eq!(rt; ran.sink.taken(), sink);
-        assert_eq!(rt; ran.log.taken(), log);
+        check_run(&rt, rt.alloc(), &PUT, bytes, outside, status, sink, log);
     }
-    Ok(())
 }
 
 /// So many bytes, of which no two neighbours are equal.
-fn some_bytes(alloc: Global, length: u32) -> Result<Vec<u8>, NoMemory> {
-    let mut bytes = Vec::with_capacity(alloc, length as usize)?;
+fn some_bytes(rt: &impl Abort, alloc: Global, length: u32) -> Vec<u8> {
+    let mut bytes = Vec::with_capacity(alloc, length as usize).expect(rt, MEMORY);
     for number in 0..length {
-        bytes.push((number % 251) as u8)?;
+        bytes.push((number % 251) as u8).expect(rt, MEMORY);
     }
-    Ok(bytes)
+    bytes
 }
 
 /// An outside with room for a long copy, which gives and takes up to a group at once.
@@ -234,7 +266,7 @@ fn most_unanswered(log: &[u8]) -> usize {
 }
 
 #[test]
-fn a_copy_carries_messages_of_many_pieces(rt: HostRuntime) -> Result<(), Fail> {
+fn a_copy_carries_messages_of_many_pieces(rt: HostRuntime) {
     // the bytes, the requests that it takes, and how many of them are unanswered at once
     const CASES: &[(u32, usize, usize)] = &[
         (1_316, 2, 1),
@@ -247,33 +279,29 @@ fn a_copy_carries_messages_of_many_pieces(rt: HostRuntime) -> Result<(), Fail> {
         (600_000, 11, 4),
     ];
     for &(length, requests, unanswered) in CASES {
-        let bytes = some_bytes(rt.alloc(), length)?;
-        let ran = copied(rt.alloc(), &PUT, &bytes, WIDE)?;
+        let bytes = some_bytes(&rt, rt.alloc(), length);
+        let ran = copied(&rt, rt.alloc(), &PUT, &bytes, WIDE);
         assert_eq!(rt; ran.status, Status::Done, "{length} bytes");
         assert!(rt; ran.sink.taken() == bytes.as_slice(), "{length} bytes");
+        let log = ran.log.taken();
         assert_eq!(rt;
-            lines_that_begin(ran.log.taken(), b"C submit "),
+            lines_that_begin(log, b"C submit "),
             requests,
             "{length} bytes"
         );
         assert_eq!(rt;
-            lines_that_begin(ran.log.taken(), b"S submit 12"),
+            lines_that_begin(log, b"S submit 12"),
             requests,
             "{length} bytes"
         );
-        assert_eq!(rt;
-            most_unanswered(ran.log.taken()),
-            unanswered,
-            "{length} bytes"
-        );
+        assert_eq!(rt; most_unanswered(log), unanswered, "{length} bytes");
     }
-    Ok(())
 }
 
 #[test]
-fn a_copy_of_100000_bytes_has_two_writes(rt: HostRuntime) -> Result<(), Fail> {
-    let bytes = some_bytes(rt.alloc(), 100_000)?;
-    let ran = copied(rt.alloc(), &PUT, &bytes, WIDE)?;
+fn a_copy_of_100000_bytes_has_two_writes(rt: HostRuntime) {
+    let bytes = some_bytes(&rt, rt.alloc(), 100_000);
+    let ran = copied(&rt, rt.alloc(), &PUT, &bytes, WIDE);
     assert_eq!(rt; ran.status, Status::Done);
     for line in [
         b"C submit 65560".as_slice(),
@@ -282,102 +310,94 @@ fn a_copy_of_100000_bytes_has_two_writes(rt: HostRuntime) -> Result<(), Fail> {
     ] {
         assert_eq!(rt; lines_that_begin(ran.log.taken(), line), 1);
     }
-    Ok(())
 }
 
 #[test]
-fn a_copy_carries_16777216_bytes_and_not_one_more(rt: HostRuntime) -> Result<(), Fail> {
-    let mut bytes = some_bytes(rt.alloc(), 16_777_216)?;
-    let longest = copied(rt.alloc(), &PUT, &bytes, WIDE)?;
-    assert_eq!(rt; longest.status, Status::Done);
-    assert!(rt; longest.sink.taken() == bytes.as_slice());
-    assert_eq!(rt; lines_that_begin(longest.log.taken(), b"C submit "), 257);
+fn a_copy_carries_16777216_bytes_and_not_one_more(rt: HostRuntime) {
+    let mut bytes = some_bytes(&rt, rt.alloc(), 16_777_216);
+    let longest = (Status::Done, 16_777_216, 257, 257);
+    check_long(&rt, rt.alloc(), &bytes, WIDE, longest);
+    bytes.push(7).expect(&rt, MEMORY);
+    // each group before the byte too many is stored, and nothing more is submitted
+    let longer = (Status::TooLong, 16_777_216, 256, 256);
+    check_long(&rt, rt.alloc(), &bytes, WIDE, longer);
+}
 
-    bytes.push(7)?;
-    let longer = copied(rt.alloc(), &PUT, &bytes, WIDE)?;
-    assert_eq!(rt; longer.status, Status::TooLong);
-    // each group before the byte too many was stored, and nothing more was submitted
-    assert_eq!(rt; longer.sink.taken().len(), 16_777_216);
-    assert!(rt; bytes.as_slice().starts_with(longer.sink.taken()));
-    assert_eq!(rt; lines_that_begin(longer.log.taken(), b"C submit "), 256);
-    assert_eq!(rt; lines_that_begin(longer.log.taken(), b"S submit "), 256);
-    Ok(())
+/// How a long copy ends, how many bytes the sink has, and how many requests and replies the log tells.
+type Long = (Status, usize, usize, usize);
+
+/// Copies so many bytes, of which the sink gets a front.
+fn check_long(rt: &impl Abort, alloc: Global, bytes: &[u8], outside: Outside<'_>, expected: Long) {
+    let ran = copied(rt, alloc, &PUT, bytes, outside);
+    assert!(rt; bytes.starts_with(ran.sink.taken()));
+    let log = ran.log.taken();
+    let requests = lines_that_begin(log, b"C submit ");
+    let replies = lines_that_begin(log, b"S submit ");
+    assert_eq!(rt;
+        (ran.status, ran.sink.taken().len(), requests, replies),
+        expected
+    );
 }
 
 #[test]
-fn a_long_copy_tells_its_faults(rt: HostRuntime) -> Result<(), Fail> {
-    // how it ends, how many bytes the sink has, and how many requests the log tells
-    const CASES: &[(Outside<'static>, Status, usize, usize)] = &[
-        (WIDE, Status::Done, 300_000, 6),
+fn a_long_copy_tells_its_faults(rt: HostRuntime) {
+    const CASES: &[(Outside<'static>, Long)] = &[
+        (WIDE, (Status::Done, 300_000, 6, 6)),
         (
             Outside {
                 source_fails: &[2],
                 ..WIDE
             },
-            Status::ReadFault,
-            0,
-            0,
+            (Status::ReadFault, 0, 0, 0),
         ),
         (
             Outside {
                 source_fails: &[5],
                 ..WIDE
             },
-            Status::ReadFault,
-            262_144,
-            4,
+            (Status::ReadFault, 262_144, 4, 4),
         ),
         (
             Outside {
                 sink_fails: &[2],
                 ..WIDE
             },
-            Status::WriteFault,
-            65_536,
-            4,
+            (Status::WriteFault, 65_536, 4, 4),
         ),
         (
             Outside {
                 sink_room: 280_000,
                 ..WIDE
             },
-            Status::WriteFault,
-            280_000,
-            6,
+            (Status::WriteFault, 280_000, 6, 6),
         ),
         (
             Outside {
                 log_fails: &[1],
                 ..WIDE
             },
-            Status::LogFault,
-            0,
-            0,
+            (Status::LogFault, 0, 0, 0),
         ),
         (
             Outside {
                 log_room: 580_000,
                 ..WIDE
             },
-            Status::LogFault,
-            262_144,
-            5,
+            (Status::LogFault, 262_144, 5, 4),
         ),
     ];
-    let bytes = some_bytes(rt.alloc(), 300_000)?;
-    for &(outside, status, stored, requests) in CASES {
-        assert!(rt; 1 <= outside.most);
-        let ran = copied(rt.alloc(), &PUT, &bytes, outside)?;
-        assert_eq!(rt; ran.status, status);
-        assert_eq!(rt; ran.sink.taken().len(), stored);
-        assert!(rt; bytes.as_slice().starts_with(ran.sink.taken()));
-        assert_eq!(rt; lines_that_begin(ran.log.taken(), b"C submit "), requests);
+    let bytes = some_bytes(&rt, rt.alloc(), 300_000);
+    for &(outside, expected) in CASES {
+        check_long(&rt, rt.alloc(), &bytes, outside, expected);
     }
-    Ok(())
 }
 
 #[test]
-fn other_words_are_refused_before_anything_is_read(rt: HostRuntime) -> Result<(), Fail> {
+fn other_words_are_refused_before_anything_is_read(rt: HostRuntime) {
+    const FAULTY: Outside<'static> = Outside {
+        source_fails: &[1],
+        ..FAIR
+    };
     const CASES: &[&[&str]] = &[
         &[],
         &["show"],
@@ -401,30 +421,35 @@ fn other_words_are_refused_before_anything_is_read(rt: HostRuntime) -> Result<()
         &["put", "--channel", "none", "none"],
     ];
     for &texts in CASES {
-        let words = words_of(rt.alloc(), texts)?;
-        let mut source = MemorySource::open(rt.alloc(), b"abc", 1, &[1])?;
-        let mut sink = MemorySink::open(rt.alloc(), 9, 1, &[])?;
-        let mut log = MemorySink::open(rt.alloc(), 9, 1, &[])?;
-        let status = run(rt.alloc(), &words, &mut source, &mut sink, &mut log);
-        assert_eq!(rt; status, Status::Usage);
-        assert_eq!(rt; sink.taken(), b"".as_slice());
-        assert_eq!(rt; log.taken(), b"".as_slice());
+        check_run(
+            &rt,
+            rt.alloc(),
+            texts,
+            b"abc",
+            FAULTY,
+            Status::Usage,
+            b"",
+            b"",
+        );
     }
-    Ok(())
 }
 
 /// Each allocation of the copy, failing in turn, ends it with `NoMemory`, a front of the log and nothing in the sink
 /// (`rt try --test --fail-alloc N`); those before the copy end the test.
 #[test]
-fn want_of_memory_ends_a_copy_with_fronts(rt: HostRuntime) -> Result<(), Fail> {
-    let ran = copied(rt.alloc(), &PUT, b"abc", FAIR)?;
-    assert!(rt; LOG_OF_ABC.starts_with(ran.log.taken()));
-    if ran.status == Status::Done {
-        assert_eq!(rt; ran.sink.taken(), b"abc".as_slice());
-        assert_eq!(rt; ran.log.taken(), LOG_OF_ABC);
-    } else {
-        assert_eq!(rt; ran.status, Status::NoMemory);
-        assert_eq!(rt; ran.sink.taken(), b"".as_slice());
-    }
-    Ok(())
+fn want_of_memory_ends_a_copy_with_fronts(rt: HostRuntime) {
+    let ran = copied(&rt, rt.alloc(), &PUT, b"abc", FAIR);
+    assert!(rt; is_whole(&ran) || is_front(&ran));
+}
+
+fn is_whole(ran: &Ran) -> bool {
+    ran.status == Status::Done
+        && ran.sink.taken() == b"abc".as_slice()
+        && ran.log.taken() == LOG_OF_ABC
+}
+
+fn is_front(ran: &Ran) -> bool {
+    ran.status == Status::NoMemory
+        && ran.sink.taken().is_empty()
+        && LOG_OF_ABC.starts_with(ran.log.taken())
 }

@@ -1,10 +1,9 @@
 //! The runs of scripts.
 
-use super::{FAIR, Outside, Ran, WIDE, copied, lines_that_begin};
-use smbd_base::NoMemory;
+use super::{FAIR, MEMORY, Outside, WIDE, check_run, copied, lines_that_begin};
 use smbd_outside::Status;
 use std::alloc::Global;
-use std::test::Fail;
+use std::process::Abort;
 
 const SIM: [&str; 1] = ["sim"];
 
@@ -42,12 +41,21 @@ const LOG_OF_NOTHING: &[u8] = b"C post 255
 S post 255
 ";
 
-fn run_of(alloc: Global, texts: &[&str], script: &[u8]) -> Result<Ran, NoMemory> {
-    copied(alloc, texts, script, FAIR)
+/// Runs a script: it ends so, the sink has this, and the log nothing.
+fn check_script(
+    rt: &impl Abort,
+    alloc: Global,
+    texts: &[&str],
+    script: &[u8],
+    outside: Outside<'_>,
+    status: Status,
+    sink: &[u8],
+) {
+    check_run(rt, alloc, texts, script, outside, status, sink, b"");
 }
 
 #[test]
-fn a_script_gives_its_log(rt: HostRuntime) -> Result<(), Fail> {
+fn a_script_gives_its_log(rt: HostRuntime) {
     const CASES: &[(&[&str], &[u8], &[u8])] = &[
         (&SIM, MESSAGE_OF_ABC, LOG_OF_MESSAGE),
         (&["sim", "--credits", "255"], MESSAGE_OF_ABC, LOG_OF_MESSAGE),
@@ -65,38 +73,50 @@ fn a_script_gives_its_log(rt: HostRuntime) -> Result<(), Fail> {
         ),
     ];
     for &(texts, script, log) in CASES {
-        let ran = run_of(rt.alloc(), texts, script)?;
-        assert_eq!(rt; ran.status, Status::Done);
-        assert_eq!(rt; ran.sink.taken(), log);
-        assert_eq!(rt; ran.log.taken(), b"".as_slice());
+        check_script(&rt, rt.alloc(), texts, script, FAIR, Status::Done, log);
     }
-    let last_line_not_ended = &MESSAGE_OF_ABC[..MESSAGE_OF_ABC.len() - 1];
-    let ran = run_of(rt.alloc(), &SIM, last_line_not_ended)?;
-    assert_eq!(rt; ran.status, Status::Done);
-    assert_eq!(rt; ran.sink.taken(), LOG_OF_MESSAGE);
-    Ok(())
+    let script = &MESSAGE_OF_ABC[..MESSAGE_OF_ABC.len() - 1];
+    check_script(
+        &rt,
+        rt.alloc(),
+        &SIM,
+        script,
+        FAIR,
+        Status::Done,
+        LOG_OF_MESSAGE,
+    );
 }
 
 /// Adds the line of a frame with a payload that counts up from `first`.
 fn add_emit(
+    rt: &impl Abort,
     alloc: Global,
     text: &mut String,
     header: &str,
     first: u32,
     length: u32,
-) -> Result<(), NoMemory> {
+) {
     let mut payload = Vec::new(alloc);
     for i in 0..length {
-        payload.push(((u64::from(first) + u64::from(i)) % 256) as u8)?;
+        payload
+            .push(((u64::from(first) + u64::from(i)) % 256) as u8)
+            .expect(rt, MEMORY);
     }
-    let digits = hex::encode(alloc, &payload)?;
-    Ok(write!(text, "C emit {header}{digits}\n")?)
+    let digits = hex::encode(alloc, &payload).expect(rt, MEMORY);
+    add(rt, text, "C emit ");
+    add(rt, text, header);
+    add(rt, text, &digits);
+    add(rt, text, "\n");
+}
+
+fn add(rt: &impl Abort, text: &mut String, part: &str) {
+    text.push_str(part).expect(rt, MEMORY);
 }
 
 /// Two ends of three credits and a message in three pieces: the client may not spend its last credit on a frame that grants nothing,
 /// and goes on once the server's empty frame has granted more.
 #[test]
-fn three_credits_carry_a_message_of_three_pieces(rt: HostRuntime) -> Result<(), Fail> {
+fn three_credits_carry_a_message_of_three_pieces(rt: HostRuntime) {
     let script = b"drive C
 carry S
 drive S
@@ -118,8 +138,29 @@ drive C
 drive C
 carry S
 ";
-    let mut log = String::from_str(
+    let mut log = String::new(rt.alloc());
+    add_lines(&rt, rt.alloc(), &mut log);
+    let outside = Outside {
+        sink_room: 16_384,
+        ..FAIR
+    };
+    let texts = ["sim", "--credits", "3"];
+    check_script(
+        &rt,
         rt.alloc(),
+        &texts,
+        script,
+        outside,
+        Status::Done,
+        log.as_bytes(),
+    );
+}
+
+/// What the run of the message in three pieces gives.
+fn add_lines(rt: &impl Abort, alloc: Global, log: &mut String) {
+    add(
+        rt,
+        log,
         "C post 3
 S post 3
 C emit 0001000100000300540500000020000000001000
@@ -130,12 +171,14 @@ C take 1 32
 C post 1
 C submit 3000
 ",
-    )?;
+    );
     let first = "03000300000000007c060000180000003c05000000000000";
-    add_emit(rt.alloc(), &mut log, first, 0, 1_340)?;
+    add_emit(rt, alloc, log, first, 0, 1_340);
     let second = "030000000100000040010000180000003c05000000000000";
-    add_emit(rt.alloc(), &mut log, second, 60, 1_340)?;
-    log.push_str(
+    add_emit(rt, alloc, log, second, 60, 1_340);
+    add(
+        rt,
+        log,
         "S take 2 1364
 S post 1
 S take 3 1364
@@ -144,61 +187,51 @@ S emit 0300020000000000000000000000000000000000
 C take 2 20
 C post 1
 ",
-    )?;
+    );
     let third = "030001000000000000000000180000004001000000000000";
-    add_emit(rt.alloc(), &mut log, third, 120, 320)?;
-    log.push_str("S take 4 344\n")?;
-
-    let outside = Outside {
-        sink_room: 16_384,
-        ..FAIR
-    };
-    assert!(rt; 1 <= outside.most);
-    let ran = copied(rt.alloc(), &["sim", "--credits", "3"], script, outside)?;
-    assert_eq!(rt; ran.status, Status::Done);
-    assert_eq!(rt; ran.sink.taken(), log.as_bytes());
-    Ok(())
+    add_emit(rt, alloc, log, third, 120, 320);
+    add(rt, log, "S take 4 344\n");
 }
 
 /// A script of two ends: the negotiation, a message of 268,000 bytes from the client, and so many turns of both.
-fn script_of_turns(alloc: Global, turns: usize) -> Result<String, NoMemory> {
-    let mut script = String::from_str(
-        alloc,
+fn script_of_turns(rt: &impl Abort, alloc: Global, turns: usize) -> String {
+    let mut script = String::new(alloc);
+    add(
+        rt,
+        &mut script,
         "drive C\ncarry S\ndrive S\ndrive S\ncarry C\nsubmit C 268000 0\n",
-    )?;
+    );
     for _ in 0..turns {
-        script.push_str("drive C\ncarry C\ndrive S\ncarry S\n")?;
+        add(rt, &mut script, "drive C\ncarry C\ndrive S\ncarry S\n");
     }
-    Ok(script)
+    script
 }
 
 /// Two ends of three credits: the client sends its request and 200 pieces, and no empty frame; the server sends its response, and
 /// an empty frame that grants what it has posted for every two pieces. More turns do nothing.
 #[test]
-fn three_credits_carry_a_message_of_200_pieces(rt: HostRuntime) -> Result<(), Fail> {
+fn three_credits_carry_a_message_of_200_pieces(rt: HostRuntime) {
     for turns in [1_000, 1_001] {
-        let script = script_of_turns(rt.alloc(), turns)?;
-        let ran = copied(
-            rt.alloc(),
-            &["sim", "--credits", "3"],
-            script.as_bytes(),
-            WIDE,
-        )?;
-        assert_eq!(rt; ran.status, Status::Done);
-        let log = ran.sink.taken();
-        assert_eq!(rt; lines_that_begin(log, b"C emit "), 201);
-        assert_eq!(rt; lines_that_begin(log, b"S take "), 201);
-        assert_eq!(rt; lines_that_begin(log, b"S emit "), 101);
-        assert_eq!(rt;
-            lines_that_begin(log, b"S emit 0300020000000000000000000000000000000000"),
-            100
-        );
+        let script = script_of_turns(&rt, rt.alloc(), turns);
+        carry_200_pieces(&rt, rt.alloc(), script.as_bytes());
     }
-    Ok(())
+}
+
+fn carry_200_pieces(rt: &impl Abort, alloc: Global, script: &[u8]) {
+    let ran = copied(rt, alloc, &["sim", "--credits", "3"], script, WIDE);
+    assert_eq!(rt; ran.status, Status::Done);
+    let log = ran.sink.taken();
+    assert_eq!(rt; lines_that_begin(log, b"C emit "), 201);
+    assert_eq!(rt; lines_that_begin(log, b"S take "), 201);
+    assert_eq!(rt; lines_that_begin(log, b"S emit "), 101);
+    assert_eq!(rt;
+        lines_that_begin(log, b"S emit 0300020000000000000000000000000000000000"),
+        100
+    );
 }
 
 #[test]
-fn the_first_bad_line_is_named_and_nothing_is_written(rt: HostRuntime) -> Result<(), Fail> {
+fn the_first_bad_line_is_named_and_nothing_is_written(rt: HostRuntime) {
     const CASES: &[(&[u8], u64)] = &[
         (b"drive C\ndrive S\ndrive X\n", 3),
         (b"\n", 1),
@@ -226,16 +259,13 @@ fn the_first_bad_line_is_named_and_nothing_is_written(rt: HostRuntime) -> Result
         (b"drive C\ndriv", 2),
     ];
     for &(script, line) in CASES {
-        let ran = run_of(rt.alloc(), &SIM, script)?;
-        assert_eq!(rt; ran.status, Status::BadInput { line });
-        assert_eq!(rt; ran.sink.taken(), b"".as_slice());
-        assert_eq!(rt; ran.log.taken(), b"".as_slice());
+        let bad = Status::BadInput { line };
+        check_script(&rt, rt.alloc(), &SIM, script, FAIR, bad, b"");
     }
-    Ok(())
 }
 
 #[test]
-fn a_run_tells_the_faults_of_its_streams(rt: HostRuntime) -> Result<(), Fail> {
+fn a_run_tells_the_faults_of_its_streams(rt: HostRuntime) {
     const CASES: &[(Outside<'static>, Status, &[u8])] = &[
         (
             Outside {
@@ -281,32 +311,30 @@ fn a_run_tells_the_faults_of_its_streams(rt: HostRuntime) -> Result<(), Fail> {
         ),
     ];
     for &(outside, status, written) in CASES {
-        assert!(rt; 1 <= outside.most);
-        let ran = copied(rt.alloc(), &SIM, MESSAGE_OF_ABC, outside)?;
-        assert_eq!(rt; ran.status, status);
-        assert_eq!(rt; ran.sink.taken(), written);
+        check_script(
+            &rt,
+            rt.alloc(),
+            &SIM,
+            MESSAGE_OF_ABC,
+            outside,
+            status,
+            written,
+        );
     }
     // what is bad comes before what can't be written
     let outside = Outside {
         sink_fails: &[1],
         ..FAIR
     };
-    assert!(rt; 1 <= outside.most);
-    let ran = copied(rt.alloc(), &SIM, b"drive\n", outside)?;
-    assert_eq!(rt; ran.status, Status::BadInput { line: 1 });
-    Ok(())
+    let bad = Status::BadInput { line: 1 };
+    check_script(&rt, rt.alloc(), &SIM, b"drive\n", outside, bad, b"");
 }
 
 #[test]
-fn scripts_have_at_most_16777216_bytes(rt: HostRuntime) -> Result<(), Fail> {
-    let mut script = Vec::new(rt.alloc());
-    script.resize(16_777_216, b' ')?;
-    let longest = copied(rt.alloc(), &SIM, &script, WIDE)?;
-    assert_eq!(rt; longest.status, Status::BadInput { line: 1 });
-
-    script.push(b'\n')?;
-    let longer = copied(rt.alloc(), &SIM, &script, WIDE)?;
-    assert_eq!(rt; longer.status, Status::TooLong);
-    assert_eq!(rt; longer.sink.taken(), b"".as_slice());
-    Ok(())
+fn scripts_have_at_most_16777216_bytes(rt: HostRuntime) {
+    let mut script = vec![in rt.alloc(); b' '; 16_777_216].expect(&rt, MEMORY);
+    let bad = Status::BadInput { line: 1 };
+    check_script(&rt, rt.alloc(), &SIM, &script, WIDE, bad, b"");
+    script.push(b'\n').expect(&rt, MEMORY);
+    check_script(&rt, rt.alloc(), &SIM, &script, WIDE, Status::TooLong, b"");
 }
