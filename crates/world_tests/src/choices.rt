@@ -45,11 +45,27 @@ fn step(rt: &impl Abort, world: &mut World, choice: &Choice) -> Step {
     world.step(choice).expect(rt, MEMORY)
 }
 
+/// Has one choice made.
+fn make(rt: &impl Abort, alloc: Global, world: &mut World, turn: Turn) -> Step {
+    let choice = choice_of(rt, alloc, turn);
+    step(rt, world, &choice)
+}
+
+/// Has choices made, and answers how many of them did something.
+fn do_turns(rt: &impl Abort, alloc: Global, world: &mut World, turns: &[Turn]) -> usize {
+    let mut did: usize = 0;
+    for turn in turns {
+        if make(rt, alloc, world, *turn) == Did {
+            did = did.saturating_add(1);
+        }
+    }
+    did
+}
+
 /// Has each choice made in turn, and sees what comes of it.
 fn follow(rt: &impl Abort, alloc: Global, world: &mut World, script: &[(Turn, Step)]) {
     for (turn, expected) in script {
-        let choice = choice_of(rt, alloc, *turn);
-        assert_eq!(rt; step(rt, world, &choice), *expected, "{turn:?}");
+        assert_eq!(rt; make(rt, alloc, world, *turn), *expected, "{turn:?}");
     }
 }
 
@@ -147,6 +163,19 @@ fn counted_submit(rt: &impl Abort, alloc: Global, end: EndId, length: u64, first
     Choice::Submit(end, Message::of_bytes(bytes).expect(rt, MEMORY))
 }
 
+/// Submits such a message.
+fn submit(
+    rt: &impl Abort,
+    alloc: Global,
+    world: &mut World,
+    end: EndId,
+    length: u64,
+    first: u64,
+) -> Step {
+    let choice = counted_submit(rt, alloc, end, length, first);
+    step(rt, world, &choice)
+}
+
 /// What comes of a message of 3,000 bytes.
 fn has_arrived(world: &World) -> bool {
     are_events(world.history(Client), b"PETPSEETPE")
@@ -162,8 +191,7 @@ fn a_message_goes_in_three_frames(rt: HostRuntime) -> Result<(), Fail> {
     let limits = EndLimits::check(3, 1_364, 8_192, 1_048_576, 64)?;
     let mut world = open(&rt, rt.alloc(), limits, limits);
     follow(&rt, rt.alloc(), &mut world, &OPENING);
-    let choice = counted_submit(&rt, rt.alloc(), Client, 3_000, 7);
-    assert!(&rt; step(&rt, &mut world, &choice) == Did);
+    assert!(&rt; submit(&rt, rt.alloc(), &mut world, Client, 3_000, 7) == Did);
     follow(&rt, rt.alloc(), &mut world, &SENDING);
     assert!(&rt; has_arrived(&world));
     Ok(())
@@ -180,8 +208,7 @@ fn nothing_happens(rt: HostRuntime) {
     let limits = EndLimits::usual();
     let mut world = open(&rt, rt.alloc(), limits, limits);
     follow(&rt, rt.alloc(), &mut world, &STANDSTILL);
-    let empty = counted_submit(&rt, rt.alloc(), Client, 0, 0);
-    assert!(&rt; step(&rt, &mut world, &empty) == Nothing);
+    assert!(&rt; submit(&rt, rt.alloc(), &mut world, Client, 0, 0) == Nothing);
     assert!(&rt; world.order() == [Client, Server].as_slice());
 }
 

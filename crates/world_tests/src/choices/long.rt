@@ -1,7 +1,7 @@
 //! Long runs of two ends.
 
 use super::{
-    MEMORY, Turn, add_turns, choice_of, count_sent, counted_submit, has_delivered, open, step,
+    MEMORY, Turn, add_turns, count_sent, counted_submit, do_turns, has_delivered, open, step,
 };
 use EndId::{Client, Server};
 use smbd_base::{EndId, EndLimits, Event, Message};
@@ -20,18 +20,6 @@ const TURN: [Turn; 4] = [
     Turn::Drives(Server),
     Turn::Takes(Server),
 ];
-
-/// Makes choices, and answers how many of them did something.
-fn do_turns(rt: &impl Abort, alloc: Global, world: &mut World, turns: &[Turn]) -> usize {
-    let mut did: usize = 0;
-    for turn in turns {
-        let choice = choice_of(rt, alloc, *turn);
-        if step(rt, world, &choice) == Step::Did {
-            did = did.saturating_add(1);
-        }
-    }
-    did
-}
 
 /// Turns until a whole one does nothing.
 fn go_quiet(rt: &impl Abort, alloc: Global, world: &mut World) {

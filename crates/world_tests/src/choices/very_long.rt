@@ -1,11 +1,11 @@
 //! A very long run of one world.
 
-use super::{Turn, choice_of, open, step};
+use super::{Turn, do_turns, open};
 use EndId::{Client, Server};
 use smbd_base::{EndId, EndLimits};
 use std::alloc::Global;
 use std::process::Abort;
-use world_core::{Step, World};
+use world_core::World;
 
 /// The messages that the client submits.
 const MESSAGES: usize = 55_000;
@@ -32,18 +32,6 @@ const NEGOTIATION: [Turn; 6] = [
     Turn::Drives(Client),
 ];
 
-/// Makes choices, and answers how many of them did something.
-fn count_done(rt: &impl Abort, alloc: Global, world: &mut World, turns: &[Turn]) -> usize {
-    let mut done: usize = 0;
-    for turn in turns {
-        let choice = choice_of(rt, alloc, *turn);
-        if step(rt, world, &choice) == Step::Did {
-            done = done.saturating_add(1);
-        }
-    }
-    done
-}
-
 /// The events of both ends.
 fn count_events(world: &World) -> usize {
     let client = world.history(Client).len();
@@ -56,9 +44,9 @@ fn a_world_lives_long(rt: HostRuntime) {
     let limits = EndLimits::usual();
     let mut world = open(&rt, rt.alloc(), limits, limits);
     let mut events = count_events(&world);
-    events = events.saturating_add(count_done(&rt, rt.alloc(), &mut world, &NEGOTIATION));
+    events = events.saturating_add(do_turns(&rt, rt.alloc(), &mut world, &NEGOTIATION));
     for _ in 0..MESSAGES {
-        events = events.saturating_add(count_done(&rt, rt.alloc(), &mut world, &ROUND));
+        events = events.saturating_add(do_turns(&rt, rt.alloc(), &mut world, &ROUND));
     }
     assert!(&rt; events > 200_000);
     assert_eq!(&rt; count_events(&world), events);
