@@ -2,11 +2,11 @@
 //!
 //! A test ends at once where memory is wanting: with a `?` beside values that are let go its proof would be dear.
 
-ghost use Rattle.event_log.specs.Lines.{HasLawfulNumbers, logged};
+ghost use Rattle.event_log.specs.Lines.{HasLawfulNumbers, logged, logged_page};
 
 use event_log::LineFault::*;
-use event_log::{Line, LineFault, LogLine, Side, line_of, read_line, write_lines};
-use smbd_base::{Event, Frame, Message, Right};
+use event_log::{Line, LineFault, LogLine, Side, line_of, line_of_page, read_line, write_lines};
+use smbd_base::{Event, Frame, Message, PageEvent, Right, Token};
 use smbd_outside::{Failed, MemorySink, Sink};
 use std::alloc::Global;
 use std::process::Abort;
@@ -280,6 +280,37 @@ fn events_are_written_as_lines(rt: HostRuntime) {
     assert!(&rt; is_written(&rt, alloc, Side::C, emit, 1, b"C emit 0102"));
     assert!(&rt; is_written(&rt, alloc, Side::S, take, 12, b"S take 12 3"));
     assert!(&rt; is_written(&rt, alloc, Side::S, cut, 1, b"S cut"));
+}
+
+fn is_written_of_page(
+    rt: &impl Abort,
+    alloc: Global,
+    side: Side,
+    event: PageEvent,
+    wanted: &[u8],
+) -> bool
+    requires { HasLawfulNumbers side (logged_page event) }
+{
+    let line = line_of_page(alloc, side, &event).expect(rt, MEMORY);
+    line.bytes() == wanted
+}
+
+#[test]
+fn events_of_pages_are_written_as_lines(rt: HostRuntime) {
+    let alloc = rt.alloc();
+    let token = Token::new(0, 1);
+    let bytes = Message::copy_of(alloc, b"abc").expect(&rt, MEMORY);
+    let left = Message::copy_of(alloc, &[0; 4_096]).expect(&rt, MEMORY);
+    let (fetch, unload) = (
+        PageEvent::Fetch {
+            token,
+            at: 0,
+            bytes,
+        },
+        PageEvent::Unload { token, bytes: left },
+    );
+    assert!(&rt; is_written_of_page(&rt, alloc, Side::Sw(1), fetch, b"S1 fetch 256 0 3"));
+    assert!(&rt; is_written_of_page(&rt, alloc, Side::Cw(1), unload, b"C1 unload 256"));
 }
 
 /// Adds the line of this many receives twice.

@@ -36,7 +36,7 @@ fn sent(rt: &impl Abort, offset: u64, token: u32, length: u32) -> Descriptor
 }
 
 /// Reads a whole page of 4,096 bytes through each descriptor, and is refused.
-fn is_refused(rt: &impl Abort, region: &mut Region, pass: &mut PagePass, out: &mut [u8; 4096]) {
+fn refuses_each(rt: &impl Abort, region: &mut Region, pass: &mut PagePass, out: &mut [u8; 4096]) {
     const CASES: &[(u64, u32, Remote)] = &[
         (4097, 257, Remote::Outside),
         (0, 257, Remote::Outside),
@@ -71,7 +71,7 @@ fn read_whole(rt: &impl Abort, region: &mut Region, owner: &mut PagePass, peer: 
     assert!(rt; read_from(region, peer, &WHOLE, &mut out) == Remote::Done);
     assert!(rt; out == bytes);
     assert!(rt; write_to(region, peer, &WHOLE, &bytes) == Remote::WrongRight);
-    is_refused(rt, region, peer, &mut out);
+    refuses_each(rt, region, peer, &mut out);
     let released = release(region, owner, Token::new(1, 1), &mut out);
     assert!(rt; released == Release::Released);
     assert!(rt; read_from(region, peer, &WHOLE, &mut out) == Remote::Stale);
