@@ -7,7 +7,6 @@ use Step::{Did, Nothing};
 use smbd_base::{EndId, EndLimits, Event, Message};
 use std::alloc::Global;
 use std::process::Abort;
-use std::test::Fail;
 use world_core::{Choice, Step, World, run_script};
 
 mod long;
@@ -15,6 +14,14 @@ mod very_long;
 
 /// What is said where memory is wanting.
 const MEMORY: &str = "memory for a test";
+
+/// What is said where limits are not lawful.
+const LAWFUL: &str = "lawful limits";
+
+/// Limits of three credits, with the usual sizes.
+fn few_credits(rt: &impl Abort) -> EndLimits {
+    EndLimits::check(3, 1_364, 8_192, 1_048_576, 64).expect(rt, LAWFUL)
+}
 
 /// A choice without its message.
 #[derive(Clone, Copy, Debug)]
@@ -187,14 +194,13 @@ fn has_arrived(world: &World) -> bool {
 }
 
 #[test]
-fn a_message_goes_in_three_frames(rt: HostRuntime) -> Result<(), Fail> {
-    let limits = EndLimits::check(3, 1_364, 8_192, 1_048_576, 64)?;
+fn a_message_goes_in_three_frames(rt: HostRuntime) {
+    let limits = few_credits(&rt);
     let mut world = open(&rt, rt.alloc(), limits, limits);
     follow(&rt, rt.alloc(), &mut world, &OPENING);
     assert!(&rt; submit(&rt, rt.alloc(), &mut world, Client, 3_000, 7) == Did);
     follow(&rt, rt.alloc(), &mut world, &SENDING);
     assert!(&rt; has_arrived(&world));
-    Ok(())
 }
 
 const STANDSTILL: [(Turn, Step); 3] = [

@@ -1,13 +1,13 @@
 //! Long runs of two ends.
 
 use super::{
-    MEMORY, Turn, add_turns, count_sent, counted_submit, do_turns, has_delivered, open, step,
+    LAWFUL, MEMORY, Turn, add_turns, count_sent, counted_submit, do_turns, few_credits,
+    has_delivered, open, step,
 };
 use EndId::{Client, Server};
 use smbd_base::{EndId, EndLimits, Event, Message};
 use std::alloc::Global;
 use std::process::Abort;
-use std::test::Fail;
 use world_core::{Choice, Step, World, run_script};
 
 /// More turns than any of these runs has.
@@ -39,15 +39,10 @@ const RESPONSE_TAKEN: [Turn; 5] = [
     Turn::Takes(Client),
 ];
 
-/// Two ends of three credits, with the usual sizes.
-fn few_credits() -> Result<EndLimits, Fail> {
-    Ok(EndLimits::check(3, 1_364, 8_192, 1_048_576, 64)?)
-}
-
 /// An end with few credits sends a frame that carries nothing, so that its peer can go on: it grants what it posted.
 #[test]
-fn an_end_with_nothing_to_say_grants_what_it_posted(rt: HostRuntime) -> Result<(), Fail> {
-    let limits = few_credits()?;
+fn an_end_with_nothing_to_say_grants_what_it_posted(rt: HostRuntime) {
+    let limits = few_credits(&rt);
     let mut world = open(&rt, rt.alloc(), limits, limits);
     assert_eq!(&rt; do_turns(&rt, rt.alloc(), &mut world, &RESPONSE_TAKEN), 5);
     let turns = [Turn::Drives(Client), Turn::Drives(Client)];
@@ -57,7 +52,6 @@ fn an_end_with_nothing_to_say_grants_what_it_posted(rt: HostRuntime) -> Result<(
         Some(Event::Emit(frame)) => assert!(&rt; frame.bytes() == empty.as_slice()),
         other => panic!(&rt; "no frame was sent, but {other:?}"),
     }
-    Ok(())
 }
 
 /// The choices of two ends whose client submits a message of 268,000 bytes once it has taken the response.
@@ -95,13 +89,12 @@ fn has_come(world: &World) -> bool {
 }
 
 #[test]
-fn three_credits_deliver_a_long_message_once(rt: HostRuntime) -> Result<(), Fail> {
-    let limits = few_credits()?;
+fn three_credits_deliver_a_long_message_once(rt: HostRuntime) {
+    let limits = few_credits(&rt);
     let choices = choices_of_long_message(&rt, rt.alloc());
     let mut world = run_script(rt.alloc(), limits, limits, &choices).expect(&rt, MEMORY);
     assert!(&rt; has_come(&world));
     assert_eq!(&rt; do_turns(&rt, rt.alloc(), &mut world, &TURN), 0);
-    Ok(())
 }
 
 /// Numbers that look random (a linear congruence).
@@ -213,10 +206,9 @@ fn see_any_choices(rt: &impl Abort, alloc: Global, client: EndLimits, server: En
 }
 
 #[test]
-fn ends_of_unequal_limits_deliver_what_was_submitted(rt: HostRuntime) -> Result<(), Fail> {
-    let few = EndLimits::check(3, 128, 8_192, 1_048_576, 64)?;
-    let many = EndLimits::check(255, 8_192, 8_192, 1_048_576, 64)?;
+fn ends_of_unequal_limits_deliver_what_was_submitted(rt: HostRuntime) {
+    let few = EndLimits::check(3, 128, 8_192, 1_048_576, 64).expect(&rt, LAWFUL);
+    let many = EndLimits::check(255, 8_192, 8_192, 1_048_576, 64).expect(&rt, LAWFUL);
     see_any_choices(&rt, rt.alloc(), few, many);
     see_any_choices(&rt, rt.alloc(), many, few);
-    Ok(())
 }
