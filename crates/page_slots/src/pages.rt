@@ -138,6 +138,7 @@ impl Pages {
         ensures refused { result ≢ Access.Done → self.new ≡ self.old }
         ensures count { length self.new ≡ length self.old }
         ensures same { result ≢ Access.Done → out.new ≡ out.old }
+        ensures size { length out.new ≡ PAGE_SIZE }
         ensures pass { pass.new ≡ pass.old }
     {
         let slot = &mut self.slots[usize::from(token.page())];

@@ -176,6 +176,7 @@ impl Slot {
         requires size { length out.old ≡ PAGE_SIZE }
         ensures step { IsPageStep (Unload token out.new) self.old }
         ensures after { self.new ≡ page_after (Unload token out.new) self.old }
+        ensures size { length out.new ≡ PAGE_SIZE }
     {
         out.copy_from_slice(self.content.as_slice());
         self.right = None;

@@ -139,6 +139,7 @@ impl Region {
         requires { length out.old ≡ PAGE_SIZE }
         ensures answer { result ≡ release_answer token self.old }
         ensures leaves { LeavesReleased token self.old self.new out.old out.new result }
+        ensures size { length out.new ≡ PAGE_SIZE }
         ensures count { length self.new.pages ≡ length self.old.pages }
         ensures pass { pass.new ≡ pass.old }
     {
@@ -163,6 +164,7 @@ impl Region {
         ensures done { result ≡ Access.Done → IsPoolStep (events.Unload token out.new) self.old.pages self.new.pages }
         ensures refused { result ≢ Access.Done → self.new ≡ self.old }
         ensures same { result ≢ Access.Done → out.new ≡ out.old }
+        ensures size { length out.new ≡ PAGE_SIZE }
         ensures table { self.new.table ≡ self.old.table }
         ensures count { length self.new.pages ≡ length self.old.pages }
         ensures pass { pass.new ≡ pass.old }
