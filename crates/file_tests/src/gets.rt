@@ -1,20 +1,18 @@
 //! Gets on both channels: whole ones, by a client and a server, and READs that are answered by the bytes that were handed in for
 //! each.
 
+use crate::MEMORY;
 use crate::getting::Getting;
-use crate::pages::Pages;
+use crate::pages::{Pages, whole_page};
 use crate::puts::bytes_of;
 use crate::serving::Serving;
 use buffer_descriptor::{Descriptor, Descriptors};
 use file_messages::{
-    Asked, Channel, CopyKind, END, FileFault, READ, Request, read_reply, request_header,
-    write_request,
+    Asked, Channel, CopyKind, END, FileFault, READ, Request, read_reply, write_request,
 };
 use smbd_base::{Message, Token};
 use std::alloc::Global;
 use std::process::Abort;
-
-const MEMORY: &str = "memory";
 
 const LENGTH: u32 = 65_536;
 
@@ -39,24 +37,12 @@ fn come(rt: &impl Abort, alloc: Global, channel: Channel, bytes: usize) {
     let mut came = Vec::new(alloc);
     for _turn in 0..5 {
         work(rt, &mut client, &mut pages);
-        if let Some(request) = client.next_message(rt) {
-            assert_eq!(rt; server.request(&request), Ok(()));
-        }
-        if let Some(most) = server.wants_source() {
-            let (part, later) = rest.split_at(rest.len().min(most as usize));
-            server.source(rt, part);
-            rest = later;
-        }
-        for _job in 0..17 {
-            let _ = server.work(rt, &mut pages);
-        }
-        if let Some(reply) = server.next_message(rt) {
-            assert_eq!(rt; client.reply(&reply), Ok(()));
-        }
+        ask(rt, &mut client, &mut server);
+        rest = feed(rt, &mut server, rest);
+        serve(rt, &mut server, &mut pages);
+        answer(rt, &mut client, &mut server);
         work(rt, &mut client, &mut pages);
-        if let Some(group) = client.received() {
-            came.extend_from_slice(group.bytes()).expect(rt, MEMORY);
-        }
+        take(rt, &mut client, &mut came);
         assert!(rt; client.received().is_none());
     }
     assert!(rt; client.finished());
@@ -67,6 +53,49 @@ fn come(rt: &impl Abort, alloc: Global, channel: Channel, bytes: usize) {
 fn work(rt: &impl Abort, client: &mut Getting, pages: &mut Pages) {
     for _job in 0..33 {
         let _ = client.work(rt, pages);
+    }
+}
+
+/// The client's next request, if one is due, is accepted.
+fn ask(rt: &impl Abort, client: &mut Getting, server: &mut Serving) {
+    if let Some(request) = client.next_message(rt) {
+        assert!(rt; server.request(&request) == Ok(()));
+    }
+}
+
+/// Hands in as many bytes as are wanted: those after them.
+fn feed<'a>(rt: &impl Abort, server: &mut Serving, rest: &'a [u8]) -> &'a [u8] {
+    let Some(most) = server.wants_source() else {
+        return rest;
+    };
+    let (part, later) = cut(rest, most as usize);
+    server.source(rt, part);
+    later
+}
+
+/// At most so many of the first bytes, and those after them.
+fn cut(bytes: &[u8], most: usize) -> (&[u8], &[u8]) {
+    bytes.split_at(bytes.len().min(most))
+}
+
+/// The server's jobs are done.
+fn serve(rt: &impl Abort, server: &mut Serving, pages: &mut Pages) {
+    for _job in 0..17 {
+        let _ = server.work(rt, pages);
+    }
+}
+
+/// The server's next reply, if one is due, is taken.
+fn answer(rt: &impl Abort, client: &mut Getting, server: &mut Serving) {
+    if let Some(reply) = server.next_message(rt) {
+        assert!(rt; client.reply(&reply) == Ok(()));
+    }
+}
+
+/// The group that came, if one did, is kept.
+fn take(rt: &impl Abort, client: &mut Getting, came: &mut Vec<u8>) {
+    if let Some(group) = client.received() {
+        came.extend_from_slice(group.bytes()).expect(rt, MEMORY);
     }
 }
 
@@ -99,16 +128,37 @@ fn read_all(rt: &impl Abort, alloc: Global, channel: Channel, parts: &[&[u8]]) {
     for part in parts {
         assert!(rt; id < 1_000 && offset < 1_000_000 && part.len() <= 65_536);
         id += 1;
-        let asked = asked_to_read(channel, id);
-        let before = load_all(rt, alloc, channel, &mut pages);
-        let request = request_of(rt, alloc, &asked, offset, before.as_slice());
-        assert_eq!(rt; server.request(&request), Ok(()));
-        fill(rt, &mut server, &mut pages, part);
-        check_reply(rt, alloc, &mut server, &asked, part);
-        check_pages(rt, channel, &mut pages, before.as_slice(), part);
+        read_part(
+            rt,
+            alloc,
+            &mut server,
+            &mut pages,
+            channel,
+            (id, offset),
+            part,
+        );
         offset += part.len() as u64;
     }
     end(rt, alloc, &mut server, id, offset);
+}
+
+/// A READ with this id at this offset, which gets the part.
+fn read_part(
+    rt: &impl Abort,
+    alloc: Global,
+    server: &mut Serving,
+    pages: &mut Pages,
+    channel: Channel,
+    (id, offset): (u32, u64),
+    part: &[u8],
+) {
+    let asked = asked_to_read(channel, id);
+    let loaded = load_all(rt, alloc, channel, pages);
+    let answer = request(rt, alloc, server, &asked, offset, loaded.as_slice());
+    assert!(rt; answer == Ok(()));
+    fill(rt, server, pages, part);
+    check_reply(rt, alloc, server, &asked, part);
+    check_pages(rt, alloc, channel, pages, loaded.as_slice(), part);
 }
 
 fn asked_to_read(channel: Channel, id: u32) -> Asked {
@@ -157,12 +207,25 @@ fn request_of(
     write_request(alloc, &request).expect(rt, MEMORY)
 }
 
+/// What the server answers to the request.
+fn request(
+    rt: &impl Abort,
+    alloc: Global,
+    server: &mut Serving,
+    asked: &Asked,
+    offset: u64,
+    descriptors: &[Descriptor],
+) -> Result<(), FileFault> {
+    let message = request_of(rt, alloc, asked, offset, descriptors);
+    server.request(&message)
+}
+
 /// The bytes are wanted once and handed in, and the jobs done.
 fn fill(rt: &impl Abort, server: &mut Serving, pages: &mut Pages, part: &[u8]) {
-    assert_eq!(rt; server.wants_source(), Some(LENGTH));
+    assert!(rt; server.wants_source() == Some(LENGTH));
     assert!(rt; server.next_message(rt).is_none());
     server.source(rt, part);
-    assert_eq!(rt; server.wants_source(), None);
+    assert!(rt; server.wants_source().is_none());
     for _job in 0..16 {
         let _ = server.work(rt, pages);
     }
@@ -171,21 +234,22 @@ fn fill(rt: &impl Abort, server: &mut Serving, pages: &mut Pages, part: &[u8]) {
 
 /// The reply counts the bytes, and carries them without registered pages.
 fn check_reply(rt: &impl Abort, alloc: Global, server: &mut Serving, asked: &Asked, part: &[u8]) {
-    let Some(message) = server.next_message(rt) else {
-        panic!(rt; "no reply")
-    };
-    let reply = read_reply(alloc, message.bytes(), asked).expect(rt, "a reply");
-    assert_eq!(rt; reply.status, 0);
-    assert_eq!(rt; reply.count as usize, part.len());
-    let carried = if asked.channel == 0 { part } else { b"" };
-    assert!(rt; reply.inline.bytes() == carried);
+    let message = server.next_message(rt).expect(rt, "no reply");
+    assert!(rt; is_reply(rt, alloc, message.bytes(), asked, part));
     assert!(rt; server.next_message(rt).is_none());
     assert!(rt; server.stored().is_none());
+}
+
+fn is_reply(rt: &impl Abort, alloc: Global, bytes: &[u8], asked: &Asked, part: &[u8]) -> bool {
+    let reply = read_reply(alloc, bytes, asked).expect(rt, "a reply");
+    let carried = if asked.channel == 0 { part } else { b"" };
+    reply.status == 0 && reply.count as usize == part.len() && reply.inline.bytes() == carried
 }
 
 /// The pages hold the part and zeros after it; they are unloaded.
 fn check_pages(
     rt: &impl Abort,
+    alloc: Global,
     channel: Channel,
     pages: &mut Pages,
     loaded: &[Descriptor],
@@ -193,18 +257,24 @@ fn check_pages(
 ) {
     let mut left = part;
     for descriptor in loaded {
-        let Some(token) = Token::from_number(descriptor.token) else {
-            panic!(rt; "no token")
-        };
-        let bytes = pages.unload(rt, token);
-        let (here, later) = left.split_at(left.len().min(4_096));
+        let (here, later) = cut(left, 4_096);
         left = later;
-        assert!(rt; bytes.bytes().starts_with(here));
-        for byte in bytes.bytes().iter().skip(here.len()) {
-            assert!(rt; *byte == 0);
-        }
+        assert!(rt; page_holds(rt, alloc, pages, descriptor.token, here));
     }
     assert!(rt; channel == Channel::None || left.is_empty());
+}
+
+/// Unloads the page: whether it holds these bytes, and zeros after them.
+fn page_holds(
+    rt: &impl Abort,
+    alloc: Global,
+    pages: &mut Pages,
+    token: u32,
+    expected: &[u8],
+) -> bool {
+    let token = Token::from_number(token).expect(rt, "no token");
+    let page = whole_page(rt, alloc, expected);
+    pages.unload(rt, token).bytes() == page.as_slice()
 }
 
 /// END is answered, and nothing is accepted after it.
@@ -216,16 +286,8 @@ fn end(rt: &impl Abort, alloc: Global, server: &mut Serving, reads: u32, offset:
         id: reads + 1,
         length: 0,
     };
-    let header = request_header(&asked, offset, 0);
-    let request = Message::copy_of(alloc, &header).expect(rt, MEMORY);
-    assert_eq!(rt; server.request(&request), Ok(()));
+    assert!(rt; request(rt, alloc, server, &asked, offset, &[]) == Ok(()));
     check_reply(rt, alloc, server, &asked, b"");
-    let again = request_of(
-        rt,
-        alloc,
-        &asked_to_read(Channel::None, reads + 2),
-        offset,
-        &[],
-    );
-    assert_eq!(rt; server.request(&again), Err(FileFault::Order));
+    let again = asked_to_read(Channel::None, reads + 2);
+    assert!(rt; request(rt, alloc, server, &again, offset, &[]) == Err(FileFault::Order));
 }

@@ -17,3 +17,7 @@ mod putting;
 mod refusals;
 #[cfg(test)]
 mod serving;
+
+/// What is said where memory is wanting.
+#[cfg(test)]
+const MEMORY: &str = "memory for a test";

@@ -4,13 +4,12 @@ ghost use Rattle.std.specs.Prelude.{◌≡◌, ◌*◌, ◌%◌, ◌≤◌, leng
 ghost use Rattle.file_pasts.specs.ClientPast.{IsOfKind};
 ghost use Rattle.file_pasts.specs.ServerDue.{Fits};
 
+use crate::MEMORY;
 use buffer_descriptor::Descriptor;
 use file_messages::{Work, WorkResult};
 use smbd_base::{Message, Token};
 use std::alloc::Global;
 use std::process::Abort;
-
-const MEMORY: &str = "memory";
 
 const PAGE: usize = 4_096;
 
@@ -160,7 +159,7 @@ fn loaded_slot<'a>(rt: &impl Abort, slots: &'a [Slot], descriptor: &Descriptor) 
 }
 
 /// The bytes, and zeros after them.
-fn whole_page(rt: &impl Abort, alloc: Global, bytes: &[u8]) -> Vec<u8> {
+pub fn whole_page(rt: &impl Abort, alloc: Global, bytes: &[u8]) -> Vec<u8> {
     let mut page = Vec::from_slice(alloc, bytes).expect(rt, MEMORY);
     page.resize(PAGE, 0).expect(rt, MEMORY);
     page

@@ -1,13 +1,12 @@
 //! Whole puts: a client and a server, with a table in place of pages between them.
 
+use crate::MEMORY;
 use crate::pages::Pages;
 use crate::putting::Putting;
 use crate::serving::Serving;
 use file_messages::{Channel, CopyKind};
 use std::alloc::Global;
 use std::process::Abort;
-
-const MEMORY: &str = "memory";
 
 const GROUP: usize = 65_536;
 
@@ -24,40 +23,36 @@ struct PutCase {
     loads: (u32, u32),
 }
 
-const fn inline(bytes: usize, at_first: usize) -> PutCase {
-    PutCase {
-        channel: Channel::None,
-        pages: 16,
-        bytes,
-        at_first,
-        loads: (0, 0),
-    }
-}
-
-const fn registered(pages: u16, bytes: usize, at_first: usize, loads: (u32, u32)) -> PutCase {
-    PutCase {
-        channel: Channel::V1,
-        pages,
-        bytes,
-        at_first,
-        loads,
-    }
-}
-
 #[test]
 fn puts_arrive(rt: HostRuntime) {
-    let cases = [
-        inline(0, 0),
-        inline(3, 1),
-        inline(196_608, 3),
-        inline(400_000, 4),
-        registered(16, 3, 1, (1, 0)),
-        registered(16, 10_000, 1, (1, 0)),
-        registered(16, 196_608, 1, (3, 3)),
-        registered(47, 200_000, 2, (2, 2)),
-        registered(48, 200_000, 3, (2, 1)),
+    /// Bytes, and groups at first.
+    const INLINE: &[(usize, usize)] = &[(0, 0), (3, 1), (196_608, 3), (400_000, 4)];
+    /// Pages, bytes, groups at first, and loads.
+    const REGISTERED: &[(u16, usize, usize, (u32, u32))] = &[
+        (16, 3, 1, (1, 0)),
+        (16, 10_000, 1, (1, 0)),
+        (16, 196_608, 1, (3, 3)),
+        (47, 200_000, 2, (2, 2)),
+        (48, 200_000, 3, (2, 1)),
     ];
-    for case in cases {
+    for &(bytes, at_first) in INLINE {
+        let case = PutCase {
+            channel: Channel::None,
+            pages: 16,
+            bytes,
+            at_first,
+            loads: (0, 0),
+        };
+        arrive(&rt, rt.alloc(), &case);
+    }
+    for &(pages, bytes, at_first, loads) in REGISTERED {
+        let case = PutCase {
+            channel: Channel::V1,
+            pages,
+            bytes,
+            at_first,
+            loads,
+        };
         arrive(&rt, rt.alloc(), &case);
     }
 }
@@ -69,8 +64,9 @@ fn arrive(rt: &impl Abort, alloc: Global, case: &PutCase) {
     let mut server = Serving::open(rt, alloc, CopyKind::Put);
     let mut pages = Pages::new(rt, alloc, case.pages);
     let mut stored = Vec::new(alloc);
-    let mut handed = hand_on(rt, &mut client, source.as_slice(), 0);
-    assert_eq!(rt; handed, case.at_first);
+    let handed = hand_on(rt, &mut client, source.as_slice(), 0);
+    assert!(rt; handed == case.at_first);
+    let mut handed = handed;
     for _turn in 0..16 {
         ask(rt, &mut client, &mut server, &mut pages);
         serve(rt, &mut client, &mut server, &mut pages, &mut stored);
@@ -78,8 +74,8 @@ fn arrive(rt: &impl Abort, alloc: Global, case: &PutCase) {
     }
     assert!(rt; client.finished());
     assert!(rt; stored == source);
-    assert_eq!(rt; pages.loads_of(0), Some(case.loads.0));
-    assert_eq!(rt; pages.loads_of(15), Some(case.loads.1));
+    assert!(rt; pages.loads_of(0) == Some(case.loads.0));
+    assert!(rt; pages.loads_of(15) == Some(case.loads.1));
 }
 
 /// So many bytes, no two pages of which are the same.
@@ -116,9 +112,14 @@ fn ask(rt: &impl Abort, client: &mut Putting, server: &mut Serving, pages: &mut 
         }
     }
     for _request in 0..8 {
-        if let Some(request) = client.next_message(rt) {
-            assert_eq!(rt; server.request(&request), Ok(()));
-        }
+        pass(rt, client, server);
+    }
+}
+
+/// The client's next request, if one is due, is accepted.
+fn pass(rt: &impl Abort, client: &mut Putting, server: &mut Serving) {
+    if let Some(request) = client.next_message(rt) {
+        assert!(rt; server.request(&request) == Ok(()));
     }
 }
 
@@ -132,15 +133,21 @@ fn serve(
 ) {
     for _job in 0..1_000 {
         if !server.work(rt, pages) {
-            answer(rt, client, server, stored);
+            answer(rt, client, server);
+            store(rt, server, stored);
         }
     }
 }
 
-fn answer(rt: &impl Abort, client: &mut Putting, server: &mut Serving, stored: &mut Vec<u8>) {
+/// The server's next reply, if one is due, is taken.
+fn answer(rt: &impl Abort, client: &mut Putting, server: &mut Serving) {
     if let Some(reply) = server.next_message(rt) {
-        assert_eq!(rt; client.reply(&reply), Ok(()));
+        assert!(rt; client.reply(&reply) == Ok(()));
     }
+}
+
+/// The server's next group, if there is one, is stored.
+fn store(rt: &impl Abort, server: &mut Serving, stored: &mut Vec<u8>) {
     if let Some(group) = server.stored() {
         stored.extend_from_slice(group.bytes()).expect(rt, MEMORY);
     }

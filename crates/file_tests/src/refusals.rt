@@ -1,5 +1,6 @@
 //! What is refused: requests and replies, each fault to the end; and accesses to pages.
 
+use crate::MEMORY;
 use crate::pages::Pages;
 use crate::putting::Putting;
 use crate::serving::Serving;
@@ -10,130 +11,116 @@ use smbd_base::Message;
 use std::alloc::Global;
 use std::process::Abort;
 
-const MEMORY: &str = "memory";
+/// A request without registered pages: its op, id, offset and length, and the bytes that it carries.
+type Asks = (u16, u32, u64, u32, &'static [u8]);
 
-/// A request without registered pages.
-#[derive(Clone, Copy)]
-struct Asks {
-    op: u16,
-    id: u32,
-    offset: u64,
-    length: u32,
-    carries: &'static [u8],
-}
-
-const fn write(id: u32, offset: u64, length: u32) -> Asks {
-    Asks {
-        op: WRITE,
-        id,
-        offset,
-        length,
-        carries: b"abc",
-    }
-}
-
-const fn plain(op: u16, id: u32, offset: u64, length: u32) -> Asks {
-    Asks {
-        op,
-        id,
-        offset,
-        length,
-        carries: b"",
-    }
-}
-
-fn message_of(rt: &impl Abort, alloc: Global, asks: &Asks) -> Message {
+fn message_of(rt: &impl Abort, alloc: Global, asks: Asks) -> Message {
+    let (op, id, offset, length, carries) = asks;
     let asked = Asked {
-        op: asks.op,
+        op,
         channel: 0,
-        id: asks.id,
-        length: asks.length,
+        id,
+        length,
     };
     let mut bytes = Vec::new(alloc);
     bytes
-        .extend_from_slice(&request_header(&asked, asks.offset, 0))
+        .extend_from_slice(&request_header(&asked, offset, 0))
         .expect(rt, MEMORY);
-    bytes.extend_from_slice(asks.carries).expect(rt, MEMORY);
+    bytes.extend_from_slice(carries).expect(rt, MEMORY);
     Message::of_bytes(bytes).expect(rt, MEMORY)
+}
+
+/// What the server answers to the request.
+fn ask(rt: &impl Abort, alloc: Global, server: &mut Serving, asks: Asks) -> Result<(), FileFault> {
+    let message = message_of(rt, alloc, asks);
+    server.request(&message)
+}
+
+/// The request is refused, and again, and one that was in its turn after it.
+fn refuse(
+    rt: &impl Abort,
+    alloc: Global,
+    server: &mut Serving,
+    asks: Asks,
+    next: Asks,
+    fault: FileFault,
+) {
+    assert!(rt;
+        ask(rt, alloc, server, asks) == Err(fault),
+        "at id {} and offset {}",
+        asks.1,
+        asks.2
+    );
+    assert!(rt; ask(rt, alloc, server, asks) == Err(fault));
+    assert!(rt; ask(rt, alloc, server, next) == Err(fault));
 }
 
 #[test]
 fn a_put_refuses_requests(rt: HostRuntime) {
-    let cases = [
-        (write(3, 3, 3), FileFault::Order),
-        (write(1, 3, 3), FileFault::Order),
-        (write(2, 2, 3), FileFault::Order),
-        (write(2, 4, 3), FileFault::Order),
-        (plain(READ, 2, 3, 3), FileFault::Order),
-        (plain(END, 3, 3, 0), FileFault::Order),
-        (plain(END, 2, 0, 0), FileFault::Order),
-        (write(2, 3, 4), FileFault::Length),
-        (plain(WRITE, 2, 3, 0), FileFault::Length),
-        (plain(END, 2, 3, 1), FileFault::Length),
-        (plain(4, 2, 3, 0), FileFault::Op),
+    const FIRST: Asks = (WRITE, 1, 0, 3, b"abc");
+    const NEXT: Asks = (WRITE, 2, 3, 3, b"abc");
+    const CASES: &[(Asks, FileFault)] = &[
+        ((WRITE, 3, 3, 3, b"abc"), FileFault::Order),
+        ((WRITE, 1, 3, 3, b"abc"), FileFault::Order),
+        ((WRITE, 2, 2, 3, b"abc"), FileFault::Order),
+        ((WRITE, 2, 4, 3, b"abc"), FileFault::Order),
+        ((READ, 2, 3, 3, b""), FileFault::Order),
+        ((END, 3, 3, 0, b""), FileFault::Order),
+        ((END, 2, 0, 0, b""), FileFault::Order),
+        ((WRITE, 2, 3, 4, b"abc"), FileFault::Length),
+        ((WRITE, 2, 3, 0, b""), FileFault::Length),
+        ((END, 2, 3, 1, b""), FileFault::Length),
+        ((4, 2, 3, 0, b""), FileFault::Op),
     ];
-    for (asks, fault) in cases {
+    for &(asks, fault) in CASES {
         let mut server = Serving::open(&rt, rt.alloc(), CopyKind::Put);
-        let first = message_of(&rt, rt.alloc(), &write(1, 0, 3));
-        assert_eq!(rt; server.request(&first), Ok(()));
-        refuse(&rt, rt.alloc(), &mut server, &asks, fault);
-        assert_eq!(rt;
-            server.request(&message_of(&rt, rt.alloc(), &write(2, 3, 3))),
-            Err(fault)
-        );
+        assert!(rt; ask(&rt, rt.alloc(), &mut server, FIRST) == Ok(()));
+        refuse(&rt, rt.alloc(), &mut server, asks, NEXT, fault);
     }
 }
 
+/// The first READ of a get.
+const READ_FIRST: Asks = (READ, 1, 0, 3, b"");
+
 #[test]
 fn a_get_refuses_requests(rt: HostRuntime) {
-    let cases = [
-        (plain(READ, 1, 3, 3), FileFault::Order),
-        (plain(READ, 3, 3, 3), FileFault::Order),
-        (plain(READ, 2, 0, 3), FileFault::Order),
-        (plain(READ, 2, 4, 3), FileFault::Order),
-        (write(2, 3, 3), FileFault::Order),
-        (plain(END, 2, 2, 0), FileFault::Order),
-        (plain(READ, 2, 3, 65_537), FileFault::Length),
+    const NEXT: Asks = (READ, 2, 3, 3, b"");
+    const CASES: &[(Asks, FileFault)] = &[
+        ((READ, 1, 3, 3, b""), FileFault::Order),
+        ((READ, 3, 3, 3, b""), FileFault::Order),
+        ((READ, 2, 0, 3, b""), FileFault::Order),
+        ((READ, 2, 4, 3, b""), FileFault::Order),
+        ((WRITE, 2, 3, 3, b"abc"), FileFault::Order),
+        ((END, 2, 2, 0, b""), FileFault::Order),
+        ((READ, 2, 3, 65_537, b""), FileFault::Length),
     ];
-    for (asks, fault) in cases {
+    for &(asks, fault) in CASES {
         let mut server = Serving::open(&rt, rt.alloc(), CopyKind::Get);
-        let first = message_of(&rt, rt.alloc(), &plain(READ, 1, 0, 3));
-        assert_eq!(rt; server.request(&first), Ok(()));
+        assert!(rt; ask(&rt, rt.alloc(), &mut server, READ_FIRST) == Ok(()));
         server.source(&rt, b"abc");
-        assert!(rt; server.next_message(&rt).is_some());
-        refuse(&rt, rt.alloc(), &mut server, &asks, fault);
-        assert_eq!(rt;
-            server.request(&message_of(&rt, rt.alloc(), &plain(READ, 2, 3, 3))),
-            Err(fault)
-        );
+        assert!(rt; replies(&rt, &mut server));
+        refuse(&rt, rt.alloc(), &mut server, asks, NEXT, fault);
     }
+}
+
+/// Whether a reply is due, which is taken.
+fn replies(rt: &impl Abort, server: &mut Serving) -> bool {
+    server.next_message(rt).is_some()
 }
 
 #[test]
 fn a_get_takes_one_request_at_a_time(rt: HostRuntime) {
+    const SECOND: Asks = (READ, 2, 0, 3, b"");
     let mut server = Serving::open(&rt, rt.alloc(), CopyKind::Get);
-    let first = message_of(&rt, rt.alloc(), &plain(READ, 1, 0, 3));
-    assert_eq!(rt; server.request(&first), Ok(()));
+    assert!(rt; ask(&rt, rt.alloc(), &mut server, READ_FIRST) == Ok(()));
     refuse(
         &rt,
         rt.alloc(),
         &mut server,
-        &plain(READ, 2, 0, 3),
+        SECOND,
+        SECOND,
         FileFault::Order,
     );
-}
-
-/// The request is refused, and again.
-fn refuse(rt: &impl Abort, alloc: Global, server: &mut Serving, asks: &Asks, fault: FileFault) {
-    let message = message_of(rt, alloc, asks);
-    assert_eq!(rt;
-        server.request(&message),
-        Err(fault),
-        "at id {} and offset {}",
-        asks.id,
-        asks.offset
-    );
-    assert_eq!(rt; server.request(&message), Err(fault));
 }
 
 /// The reply to the WRITE of `abc`.
@@ -141,8 +128,11 @@ const DONE: &[u8; 12] = b"\x01\x80\x00\x00\x01\x00\x00\x00\x03\x00\x00\x00";
 
 #[test]
 fn a_put_refuses_replies(rt: HostRuntime) {
-    let cases: [(&[u8], ReplyFault); 7] = [
-        (&DONE[..11], ReplyFault::File(FileFault::Short)),
+    const CASES: &[(&[u8], ReplyFault)] = &[
+        (
+            b"\x01\x80\x00\x00\x01\x00\x00\x00\x03\x00\x00",
+            ReplyFault::File(FileFault::Short),
+        ),
         (
             b"\x02\x80\x00\x00\x01\x00\x00\x00\x03\x00\x00\x00",
             ReplyFault::File(FileFault::Op),
@@ -168,11 +158,10 @@ fn a_put_refuses_replies(rt: HostRuntime) {
             ReplyFault::Status(3),
         ),
     ];
-    for (bytes, fault) in cases {
+    for &(bytes, fault) in CASES {
         let mut client = Putting::open(&rt, rt.alloc(), Channel::None, 16);
-        assert!(rt; client.hand(&rt, b"abc"));
-        client.end();
-        assert!(rt; client.next_message(&rt).is_some());
+        prepare(&rt, &mut client);
+        assert!(rt; requests(&rt, &mut client));
         fail(&rt, rt.alloc(), &mut client, bytes, fault);
     }
 }
@@ -180,8 +169,7 @@ fn a_put_refuses_replies(rt: HostRuntime) {
 #[test]
 fn a_reply_to_nothing_is_refused(rt: HostRuntime) {
     let mut client = Putting::open(&rt, rt.alloc(), Channel::None, 16);
-    assert!(rt; client.hand(&rt, b"abc"));
-    client.end();
+    prepare(&rt, &mut client);
     fail(
         &rt,
         rt.alloc(),
@@ -191,47 +179,71 @@ fn a_reply_to_nothing_is_refused(rt: HostRuntime) {
     );
 }
 
-/// The reply is refused, and a good one after it; nothing is given any more.
-fn fail(rt: &impl Abort, alloc: Global, client: &mut Putting, bytes: &[u8], fault: ReplyFault) {
-    let bad = Message::copy_of(alloc, bytes).expect(rt, MEMORY);
-    assert_eq!(rt; client.reply(&bad), Err(fault));
-    let good = Message::copy_of(alloc, DONE).expect(rt, MEMORY);
-    assert_eq!(rt; client.reply(&good), Err(fault));
-    assert!(rt; client.next_message(rt).is_none());
-    assert!(rt; !client.finished());
+/// Hands in `abc`, and no more.
+fn prepare(rt: &impl Abort, client: &mut Putting) {
+    assert!(rt; client.hand(rt, b"abc"));
+    client.end();
 }
 
-/// The reply that refuses the WRITE for the cause 5, and those to the WRITE and the END after it.
-const REFUSED: [&[u8; 12]; 3] = [
-    b"\x01\x80\x05\x00\x01\x00\x00\x00\x00\x00\x00\x00",
-    b"\x01\x80\x05\x00\x02\x00\x00\x00\x00\x00\x00\x00",
-    b"\x03\x80\x05\x00\x03\x00\x00\x00\x00\x00\x00\x00",
-];
+/// Whether a request is due, which is taken.
+fn requests(rt: &impl Abort, client: &mut Putting) -> bool {
+    client.next_message(rt).is_some()
+}
+
+/// What the client says to the reply.
+fn reply(
+    rt: &impl Abort,
+    alloc: Global,
+    client: &mut Putting,
+    bytes: &[u8],
+) -> Result<(), ReplyFault> {
+    let message = Message::copy_of(alloc, bytes).expect(rt, MEMORY);
+    client.reply(&message)
+}
+
+/// The reply is refused, and a good one after it; nothing is given any more.
+fn fail(rt: &impl Abort, alloc: Global, client: &mut Putting, bytes: &[u8], fault: ReplyFault) {
+    assert!(rt; reply(rt, alloc, client, bytes) == Err(fault));
+    assert!(rt; reply(rt, alloc, client, DONE) == Err(fault));
+    assert!(rt; !requests(rt, client));
+    assert!(rt; !client.finished());
+}
 
 #[test]
 fn a_refused_access_is_told(rt: HostRuntime) {
     let mut client = Putting::open(&rt, rt.alloc(), Channel::V1, 16);
     let mut server = Serving::open(&rt, rt.alloc(), CopyKind::Put);
     let mut pages = Pages::new(&rt, rt.alloc(), 16);
-    assert!(rt; client.hand(&rt, &[7; 5000]));
-    assert!(rt; client.work(&rt, &mut pages) && client.work(&rt, &mut pages));
-    let Some(request) = client.next_message(&rt) else {
-        panic!(rt; "no request")
-    };
-    assert_eq!(rt; server.request(&request), Ok(()));
-    assert!(rt; server.refuse(5) && server.next_message(&rt).is_none());
-    assert!(rt; server.refuse(2) && !server.refuse(1));
-    let next = message_of(&rt, rt.alloc(), &write(2, 5000, 3));
-    assert_eq!(rt; server.request(&next), Ok(()));
-    let end = message_of(&rt, rt.alloc(), &plain(END, 3, 5003, 0));
-    assert_eq!(rt; server.request(&end), Ok(()));
-    for expected in REFUSED {
-        assert!(rt; server.stored().is_none());
-        assert!(rt; reply_is(&rt, &mut server, expected));
-    }
-    let reply = Message::copy_of(rt.alloc(), REFUSED[0]).expect(&rt, MEMORY);
-    assert_eq!(rt; client.reply(&reply), Err(ReplyFault::Status(5)));
+    write_pages(&rt, &mut client, &mut server, &mut pages);
+    tell(&rt, rt.alloc(), &mut client, &mut server);
     assert!(rt; !client.work(&rt, &mut pages));
+}
+
+/// The client asks the server to fetch two pages.
+fn write_pages(rt: &impl Abort, client: &mut Putting, server: &mut Serving, pages: &mut Pages) {
+    assert!(rt; client.hand(rt, &[7; 5000]));
+    assert!(rt; client.work(rt, pages) && client.work(rt, pages));
+    let request = client.next_message(rt).expect(rt, "no request");
+    assert!(rt; server.request(&request) == Ok(()));
+}
+
+/// The server is refused both, and tells of the first in each reply.
+fn tell(rt: &impl Abort, alloc: Global, client: &mut Putting, server: &mut Serving) {
+    // To the WRITE whose pages are refused, and to the WRITE and the END after it.
+    const REFUSED: &[&[u8; 12]] = &[
+        b"\x01\x80\x05\x00\x01\x00\x00\x00\x00\x00\x00\x00",
+        b"\x01\x80\x05\x00\x02\x00\x00\x00\x00\x00\x00\x00",
+        b"\x03\x80\x05\x00\x03\x00\x00\x00\x00\x00\x00\x00",
+    ];
+    assert!(rt; server.refuse(5) && !replies(rt, server));
+    assert!(rt; server.refuse(2) && !server.refuse(1));
+    assert!(rt; ask(rt, alloc, server, (WRITE, 2, 5000, 3, b"abc")) == Ok(()));
+    assert!(rt; ask(rt, alloc, server, (END, 3, 5003, 0, b"")) == Ok(()));
+    for &expected in REFUSED {
+        assert!(rt; server.stored().is_none());
+        assert!(rt; reply_is(rt, server, expected));
+    }
+    assert!(rt; reply(rt, alloc, client, REFUSED[0]) == Err(ReplyFault::Status(5)));
 }
 
 fn reply_is(rt: &impl Abort, server: &mut Serving, expected: &[u8]) -> bool {

@@ -2,6 +2,7 @@
 
 ghost use Rattle.std.specs.Prelude.{◌≤◌};
 
+use crate::MEMORY;
 use crate::pages::Pages;
 use file_messages::{Completion, CopyKind, FileFault, WorkResult};
 use file_transfer::FileServer;
@@ -9,8 +10,6 @@ use smbd_base::Message;
 use std::alloc::Global;
 use std::marker::Model;
 use std::process::Abort;
-
-const MEMORY: &str = "memory";
 
 #[derive(Drop)]
 pub struct Serving {
