@@ -10,7 +10,11 @@ mod records;
 #[cfg(test)]
 mod regions;
 #[cfg(test)]
+mod rings;
+#[cfg(test)]
 mod slots;
+#[cfg(test)]
+mod workers;
 
 /// What is said where memory is wanting.
 #[cfg(test)]

@@ -1,0 +1,4 @@
+pub mod RunLemmas
+pub mod TryLemmas
+pub mod WentLemmas
+pub mod JobLaws

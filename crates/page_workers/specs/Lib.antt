@@ -1,0 +1,6 @@
+pub mod Jobs
+pub mod Tries
+pub mod Runs
+pub mod Workers
+pub mod Laws
+pub mod Worked
