@@ -2,21 +2,18 @@
 //! each.
 
 use crate::MEMORY;
+use crate::asking::ask;
 use crate::getting::Getting;
 use crate::pages::{Pages, whole_page};
 use crate::puts::bytes_of;
 use crate::serving::Serving;
-use buffer_descriptor::{Descriptor, Descriptors};
-use file_messages::{
-    Asked, Channel, CopyKind, END, FileFault, READ, Request, read_reply, write_request,
-};
-use smbd_base::{Message, Token};
+use buffer_descriptor::Descriptor;
+use file_messages::{Asked, Channel, CopyKind, END, FileFault, READ, read_reply};
+use smbd_base::Token;
 use std::alloc::Global;
 use std::process::Abort;
 
 const LENGTH: u32 = 65_536;
-
-const ALPHABET: &[u8] = b"abcdefghijklmnopqrstuvwxyz";
 
 #[test]
 fn gets_come(rt: HostRuntime) {
@@ -37,7 +34,7 @@ fn come(rt: &impl Abort, alloc: Global, channel: Channel, bytes: usize) {
     let mut came = Vec::new(alloc);
     for _turn in 0..5 {
         work(rt, &mut client, &mut pages);
-        ask(rt, &mut client, &mut server);
+        pass(rt, &mut client, &mut server);
         rest = feed(rt, &mut server, rest);
         serve(rt, &mut server, &mut pages);
         answer(rt, &mut client, &mut server);
@@ -57,7 +54,7 @@ fn work(rt: &impl Abort, client: &mut Getting, pages: &mut Pages) {
 }
 
 /// The client's next request, if one is due, is accepted.
-fn ask(rt: &impl Abort, client: &mut Getting, server: &mut Serving) {
+fn pass(rt: &impl Abort, client: &mut Getting, server: &mut Serving) {
     if let Some(request) = client.next_message(rt) {
         assert!(rt; server.request(&request) == Ok(()));
     }
@@ -101,22 +98,12 @@ fn take(rt: &impl Abort, client: &mut Getting, came: &mut Vec<u8>) {
 
 #[test]
 fn reads_are_answered(rt: HostRuntime) {
-    let whole = alphabets(&rt, rt.alloc());
+    let whole = bytes_of(&rt, rt.alloc(), 65_536);
     let parts: [&[u8]; 3] = [whole.as_slice(), b"abc", b""];
     read_all(&rt, rt.alloc(), Channel::None, &parts);
     read_all(&rt, rt.alloc(), Channel::V1, &parts);
     read_all(&rt, rt.alloc(), Channel::None, &[b""]);
     read_all(&rt, rt.alloc(), Channel::V1, &[b""]);
-}
-
-/// 65,536 bytes.
-fn alphabets(rt: &impl Abort, alloc: Global) -> Vec<u8> {
-    let mut bytes = Vec::with_capacity(alloc, 65_550).expect(rt, MEMORY);
-    for _turn in 0..2_521 {
-        bytes.extend_from_slice(ALPHABET).expect(rt, MEMORY);
-    }
-    bytes.truncate(65_536);
-    bytes
 }
 
 /// A get whose READs get these parts, one after another.
@@ -128,37 +115,41 @@ fn read_all(rt: &impl Abort, alloc: Global, channel: Channel, parts: &[&[u8]]) {
     for part in parts {
         assert!(rt; id < 1_000 && offset < 1_000_000 && part.len() <= 65_536);
         id += 1;
-        read_part(
-            rt,
-            alloc,
-            &mut server,
-            &mut pages,
-            channel,
-            (id, offset),
-            part,
-        );
+        let asked = asked_to_read(channel, id);
+        read_part(rt, alloc, &mut server, &mut pages, &asked, offset, part);
         offset += part.len() as u64;
     }
     end(rt, alloc, &mut server, id, offset);
 }
 
-/// A READ with this id at this offset, which gets the part.
+/// A READ at this offset, which gets the part.
 fn read_part(
     rt: &impl Abort,
     alloc: Global,
     server: &mut Serving,
     pages: &mut Pages,
-    channel: Channel,
-    (id, offset): (u32, u64),
+    asked: &Asked,
+    offset: u64,
     part: &[u8],
 ) {
-    let asked = asked_to_read(channel, id);
-    let loaded = load_all(rt, alloc, channel, pages);
-    let answer = request(rt, alloc, server, &asked, offset, loaded.as_slice());
+    let loaded = load_all(rt, alloc, asked, pages);
+    let answer = ask(rt, alloc, server, asked, offset, loaded.as_slice(), b"");
     assert!(rt; answer == Ok(()));
+    answer_with(rt, alloc, server, pages, asked, part);
+    check_pages(rt, alloc, asked, pages, loaded.as_slice(), part);
+}
+
+/// The READ is answered by the part.
+fn answer_with(
+    rt: &impl Abort,
+    alloc: Global,
+    server: &mut Serving,
+    pages: &mut Pages,
+    asked: &Asked,
+    part: &[u8],
+) {
     fill(rt, server, pages, part);
-    check_reply(rt, alloc, server, &asked, part);
-    check_pages(rt, alloc, channel, pages, loaded.as_slice(), part);
+    check_reply(rt, alloc, server, asked, part);
 }
 
 fn asked_to_read(channel: Channel, id: u32) -> Asked {
@@ -171,14 +162,9 @@ fn asked_to_read(channel: Channel, id: u32) -> Asked {
 }
 
 /// With registered pages loads 16 of them, for the server to place in.
-fn load_all(
-    rt: &impl Abort,
-    alloc: Global,
-    channel: Channel,
-    pages: &mut Pages,
-) -> Vec<Descriptor> {
+fn load_all(rt: &impl Abort, alloc: Global, asked: &Asked, pages: &mut Pages) -> Vec<Descriptor> {
     let mut loaded = Vec::new(alloc);
-    if channel == Channel::V1 {
+    if asked.channel != 0 {
         for page in 0..16 {
             let descriptor = pages.load(rt, page, &[0; 4096]);
             loaded.push(descriptor).expect(rt, MEMORY);
@@ -187,43 +173,10 @@ fn load_all(
     loaded
 }
 
-fn request_of(
-    rt: &impl Abort,
-    alloc: Global,
-    asked: &Asked,
-    offset: u64,
-    descriptors: &[Descriptor],
-) -> Message {
-    assert!(rt; descriptors.len() <= 16);
-    let request = Request {
-        op: asked.op,
-        channel: asked.channel,
-        id: asked.id,
-        offset,
-        length: asked.length,
-        descriptors: Descriptors::copy_of(alloc, descriptors).expect(rt, MEMORY),
-        inline: Message::copy_of(alloc, b"").expect(rt, MEMORY),
-    };
-    write_request(alloc, &request).expect(rt, MEMORY)
-}
-
-/// What the server answers to the request.
-fn request(
-    rt: &impl Abort,
-    alloc: Global,
-    server: &mut Serving,
-    asked: &Asked,
-    offset: u64,
-    descriptors: &[Descriptor],
-) -> Result<(), FileFault> {
-    let message = request_of(rt, alloc, asked, offset, descriptors);
-    server.request(&message)
-}
-
 /// The bytes are wanted once and handed in, and the jobs done.
 fn fill(rt: &impl Abort, server: &mut Serving, pages: &mut Pages, part: &[u8]) {
     assert!(rt; server.wants_source() == Some(LENGTH));
-    assert!(rt; server.next_message(rt).is_none());
+    assert!(rt; !server.replies(rt));
     server.source(rt, part);
     assert!(rt; server.wants_source().is_none());
     for _job in 0..16 {
@@ -236,7 +189,7 @@ fn fill(rt: &impl Abort, server: &mut Serving, pages: &mut Pages, part: &[u8]) {
 fn check_reply(rt: &impl Abort, alloc: Global, server: &mut Serving, asked: &Asked, part: &[u8]) {
     let message = server.next_message(rt).expect(rt, "no reply");
     assert!(rt; is_reply(rt, alloc, message.bytes(), asked, part));
-    assert!(rt; server.next_message(rt).is_none());
+    assert!(rt; !server.replies(rt));
     assert!(rt; server.stored().is_none());
 }
 
@@ -250,7 +203,7 @@ fn is_reply(rt: &impl Abort, alloc: Global, bytes: &[u8], asked: &Asked, part: &
 fn check_pages(
     rt: &impl Abort,
     alloc: Global,
-    channel: Channel,
+    asked: &Asked,
     pages: &mut Pages,
     loaded: &[Descriptor],
     part: &[u8],
@@ -261,7 +214,7 @@ fn check_pages(
         left = later;
         assert!(rt; page_holds(rt, alloc, pages, descriptor.token, here));
     }
-    assert!(rt; channel == Channel::None || left.is_empty());
+    assert!(rt; asked.channel == 0 || left.is_empty());
 }
 
 /// Unloads the page: whether it holds these bytes, and zeros after them.
@@ -286,8 +239,8 @@ fn end(rt: &impl Abort, alloc: Global, server: &mut Serving, reads: u32, offset:
         id: reads + 1,
         length: 0,
     };
-    assert!(rt; request(rt, alloc, server, &asked, offset, &[]) == Ok(()));
+    assert!(rt; ask(rt, alloc, server, &asked, offset, &[], b"") == Ok(()));
     check_reply(rt, alloc, server, &asked, b"");
     let again = asked_to_read(Channel::None, reads + 2);
-    assert!(rt; request(rt, alloc, server, &again, offset, &[]) == Err(FileFault::Order));
+    assert!(rt; ask(rt, alloc, server, &again, offset, &[], b"") == Err(FileFault::Order));
 }

@@ -27,6 +27,8 @@ struct Slot {
 pub struct Pages {
     alloc: Global,
     slots: Vec<Slot>,
+    /// The status of each access of a server, if they are refused.
+    refused: Option<u16>,
 }
 
 impl Pages {
@@ -40,7 +42,16 @@ impl Pages {
             };
             slots.push(slot).expect(rt, MEMORY);
         }
-        Pages { alloc, slots }
+        Pages {
+            alloc,
+            slots,
+            refused: None,
+        }
+    }
+
+    /// From now on each access of a server is refused with this status.
+    pub fn refuse(&mut self, status: u16) {
+        self.refused = Some(status);
     }
 
     /// How often the page was loaded, if it is one of the pool and not loaded now.
@@ -74,6 +85,10 @@ impl Pages {
     pub fn do_for_server(&mut self, rt: &impl Abort, work: &Work) -> WorkResult
         ensures { Fits work.now result }
     {
+        if let Some(status) = self.refused {
+            assert!(rt; 1 <= status && status <= 6);
+            return WorkResult::Refused(status);
+        }
         match work {
             Work::Fetch { descriptor } => WorkResult::Fetched(self.fetch(rt, descriptor)),
             Work::Place { descriptor, bytes } => {
@@ -100,15 +115,12 @@ impl Pages {
         let Some(slot) = self.slots.get_mut(usize::from(page)) else {
             panic!(rt; "no such page")
         };
-        assert!(rt; !slot.is_loaded && slot.loads < 1_000 && bytes.len() <= PAGE);
+        assert!(rt; !slot.is_loaded && slot.loads < 1_000);
+        assert!(rt; bytes.len() <= PAGE);
         slot.loads += 1;
         slot.is_loaded = true;
         slot.bytes = whole_page(rt, alloc, bytes);
-        Descriptor {
-            offset: u64::from(page) * 4_096,
-            token: slot.loads * 256 + u32::from(page),
-            length: bytes.len() as u32,
-        }
+        descriptor_of(page, slot.loads, bytes.len() as u32)
     }
 
     /// Unloads the page of the token: its bytes.
@@ -128,7 +140,10 @@ impl Pages {
     fn fetch(&self, rt: &impl Abort, descriptor: &Descriptor) -> Message
         ensures { length result ≡ descriptor.now.length }
     {
-        let slot = loaded_slot(rt, self.slots.as_slice(), descriptor);
+        let Some(slot) = self.slots.get(page_of(descriptor)) else {
+            panic!(rt; "no such page")
+        };
+        assert!(rt; names(descriptor, slot));
         let count = descriptor.length as usize;
         assert!(rt; count <= slot.bytes.len());
         let bytes = Message::copy_of(self.alloc, &slot.bytes[..count]).expect(rt, MEMORY);
@@ -137,25 +152,43 @@ impl Pages {
     }
 
     fn place(&mut self, rt: &impl Abort, descriptor: &Descriptor, bytes: &[u8]) {
-        let _loaded = loaded_slot(rt, self.slots.as_slice(), descriptor);
-        assert!(rt; bytes.len() == descriptor.length as usize);
         let alloc = self.alloc;
-        let Some(slot) = self.slots.get_mut((descriptor.token % 256) as usize) else {
+        let Some(slot) = self.slots.get_mut(page_of(descriptor)) else {
             panic!(rt; "no such page")
         };
+        assert!(rt; names(descriptor, slot));
+        assert!(rt; bytes.len() == descriptor.length as usize);
         slot.bytes = whole_page(rt, alloc, bytes);
     }
 }
 
-/// The page that a descriptor names by its last load.
-fn loaded_slot<'a>(rt: &impl Abort, slots: &'a [Slot], descriptor: &Descriptor) -> &'a Slot {
-    let page = descriptor.token % 256;
-    let Some(slot) = slots.get(page as usize) else {
-        panic!(rt; "no such page")
-    };
-    assert!(rt; slot.is_loaded && slot.loads == descriptor.token / 256);
-    assert!(rt; descriptor.offset == u64::from(page) * 4_096);
-    slot
+/// The descriptor of so many bytes of a page in this load of it.
+fn descriptor_of(page: u8, loads: u32, length: u32) -> Descriptor
+    requires least { 1 ≤ loads }
+    requires most { loads ≤ 1000 }
+    ensures offset { result.offset ≡ page * 4096 }
+    ensures page { result.token % 256 ≡ page }
+    ensures token { 256 ≤ result.token }
+    ensures length { result.length ≡ length }
+{
+    Descriptor {
+        offset: u64::from(page) * 4_096,
+        token: loads * 256 + u32::from(page),
+        length,
+    }
+}
+
+/// The page of a descriptor.
+fn page_of(descriptor: &Descriptor) -> usize {
+    (descriptor.token % 256) as usize
+}
+
+/// Whether a descriptor names its page by the page's last load.
+fn names(descriptor: &Descriptor, slot: &Slot) -> bool {
+    let page = (descriptor.token % 256) as u8;
+    slot.is_loaded
+        && slot.loads == descriptor.token / 256
+        && descriptor.offset == u64::from(page) * 4_096
 }
 
 /// The bytes, and zeros after them.

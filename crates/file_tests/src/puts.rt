@@ -64,9 +64,8 @@ fn arrive(rt: &impl Abort, alloc: Global, case: &PutCase) {
     let mut server = Serving::open(rt, alloc, CopyKind::Put);
     let mut pages = Pages::new(rt, alloc, case.pages);
     let mut stored = Vec::new(alloc);
-    let handed = hand_on(rt, &mut client, source.as_slice(), 0);
+    let mut handed = hand_on(rt, &mut client, source.as_slice(), 0);
     assert!(rt; handed == case.at_first);
-    let mut handed = handed;
     for _turn in 0..16 {
         ask(rt, &mut client, &mut server, &mut pages);
         serve(rt, &mut client, &mut server, &mut pages, &mut stored);
@@ -78,14 +77,16 @@ fn arrive(rt: &impl Abort, alloc: Global, case: &PutCase) {
     assert!(rt; pages.loads_of(15) == Some(case.loads.1));
 }
 
-/// So many bytes, no two pages of which are the same.
+/// The same 101 bytes again and again, so that no two of the first 101 pages are the same: so many of them, at most 400,061.
 pub fn bytes_of(rt: &impl Abort, alloc: Global, count: usize) -> Vec<u8> {
-    let mut bytes = Vec::with_capacity(alloc, count).expect(rt, MEMORY);
-    for place in 0..count {
-        bytes
-            .push((place % 251 + place / 4_096 % 5) as u8)
-            .expect(rt, MEMORY);
+    const TEXT: &[u8; 101] =
+        b"abcdefghijklmnopqrstuvwxyzABCDEFGHIJKLMNOPQRSTUVWXYZ0123456789the quick brown fox jumps over the lazy";
+    let mut bytes = Vec::with_capacity(alloc, 400_061).expect(rt, MEMORY);
+    for _turn in 0..3_961 {
+        bytes.extend_from_slice(TEXT).expect(rt, MEMORY);
     }
+    bytes.truncate(count);
+    assert!(rt; bytes.len() == count);
     bytes
 }
 
@@ -117,7 +118,7 @@ fn ask(rt: &impl Abort, client: &mut Putting, server: &mut Serving, pages: &mut 
 }
 
 /// The client's next request, if one is due, is accepted.
-fn pass(rt: &impl Abort, client: &mut Putting, server: &mut Serving) {
+pub fn pass(rt: &impl Abort, client: &mut Putting, server: &mut Serving) {
     if let Some(request) = client.next_message(rt) {
         assert!(rt; server.request(&request) == Ok(()));
     }

@@ -1,12 +1,11 @@
 //! What is refused: requests and replies, each fault to the end; and accesses to pages.
 
-use crate::MEMORY;
 use crate::pages::Pages;
+use crate::puts::pass;
 use crate::putting::Putting;
 use crate::serving::Serving;
-use file_messages::{
-    Asked, Channel, CopyKind, END, FileFault, READ, ReplyFault, WRITE, request_header,
-};
+use crate::{MEMORY, asking};
+use file_messages::{Asked, Channel, CopyKind, END, FileFault, READ, ReplyFault, WRITE};
 use smbd_base::Message;
 use std::alloc::Global;
 use std::process::Abort;
@@ -14,7 +13,8 @@ use std::process::Abort;
 /// A request without registered pages: its op, id, offset and length, and the bytes that it carries.
 type Asks = (u16, u32, u64, u32, &'static [u8]);
 
-fn message_of(rt: &impl Abort, alloc: Global, asks: Asks) -> Message {
+/// What the server answers to the request.
+fn ask(rt: &impl Abort, alloc: Global, server: &mut Serving, asks: Asks) -> Result<(), FileFault> {
     let (op, id, offset, length, carries) = asks;
     let asked = Asked {
         op,
@@ -22,18 +22,7 @@ fn message_of(rt: &impl Abort, alloc: Global, asks: Asks) -> Message {
         id,
         length,
     };
-    let mut bytes = Vec::new(alloc);
-    bytes
-        .extend_from_slice(&request_header(&asked, offset, 0))
-        .expect(rt, MEMORY);
-    bytes.extend_from_slice(carries).expect(rt, MEMORY);
-    Message::of_bytes(bytes).expect(rt, MEMORY)
-}
-
-/// What the server answers to the request.
-fn ask(rt: &impl Abort, alloc: Global, server: &mut Serving, asks: Asks) -> Result<(), FileFault> {
-    let message = message_of(rt, alloc, asks);
-    server.request(&message)
+    asking::ask(rt, alloc, server, &asked, offset, &[], carries)
 }
 
 /// The request is refused, and again, and one that was in its turn after it.
@@ -98,14 +87,9 @@ fn a_get_refuses_requests(rt: HostRuntime) {
         let mut server = Serving::open(&rt, rt.alloc(), CopyKind::Get);
         assert!(rt; ask(&rt, rt.alloc(), &mut server, READ_FIRST) == Ok(()));
         server.source(&rt, b"abc");
-        assert!(rt; replies(&rt, &mut server));
+        assert!(rt; server.replies(&rt));
         refuse(&rt, rt.alloc(), &mut server, asks, NEXT, fault);
     }
-}
-
-/// Whether a reply is due, which is taken.
-fn replies(rt: &impl Abort, server: &mut Serving) -> bool {
-    server.next_message(rt).is_some()
 }
 
 #[test]
@@ -215,28 +199,37 @@ fn a_refused_access_is_told(rt: HostRuntime) {
     let mut server = Serving::open(&rt, rt.alloc(), CopyKind::Put);
     let mut pages = Pages::new(&rt, rt.alloc(), 16);
     write_pages(&rt, &mut client, &mut server, &mut pages);
-    tell(&rt, rt.alloc(), &mut client, &mut server);
+    tell(&rt, rt.alloc(), &mut client, &mut server, &mut pages);
     assert!(rt; !client.work(&rt, &mut pages));
 }
 
 /// The client asks the server to fetch two pages.
 fn write_pages(rt: &impl Abort, client: &mut Putting, server: &mut Serving, pages: &mut Pages) {
-    assert!(rt; client.hand(rt, &[7; 5000]));
-    assert!(rt; client.work(rt, pages) && client.work(rt, pages));
-    let request = client.next_message(rt).expect(rt, "no request");
-    assert!(rt; server.request(&request) == Ok(()));
+    const GROUP: &[u8] = &[7; 5000];
+    assert!(rt; client.hand(rt, GROUP));
+    assert!(rt; client.work(rt, pages));
+    assert!(rt; client.work(rt, pages));
+    pass(rt, client, server);
 }
 
 /// The server is refused both, and tells of the first in each reply.
-fn tell(rt: &impl Abort, alloc: Global, client: &mut Putting, server: &mut Serving) {
+fn tell(
+    rt: &impl Abort,
+    alloc: Global,
+    client: &mut Putting,
+    server: &mut Serving,
+    pages: &mut Pages,
+) {
     // To the WRITE whose pages are refused, and to the WRITE and the END after it.
     const REFUSED: &[&[u8; 12]] = &[
         b"\x01\x80\x05\x00\x01\x00\x00\x00\x00\x00\x00\x00",
         b"\x01\x80\x05\x00\x02\x00\x00\x00\x00\x00\x00\x00",
         b"\x03\x80\x05\x00\x03\x00\x00\x00\x00\x00\x00\x00",
     ];
-    assert!(rt; server.refuse(5) && !replies(rt, server));
-    assert!(rt; server.refuse(2) && !server.refuse(1));
+    pages.refuse(5);
+    assert!(rt; server.work(rt, pages) && !server.replies(rt));
+    pages.refuse(2);
+    assert!(rt; server.work(rt, pages) && !server.work(rt, pages));
     assert!(rt; ask(rt, alloc, server, (WRITE, 2, 5000, 3, b"abc")) == Ok(()));
     assert!(rt; ask(rt, alloc, server, (END, 3, 5003, 0, b"")) == Ok(()));
     for &expected in REFUSED {

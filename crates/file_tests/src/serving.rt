@@ -1,10 +1,8 @@
 //! A server whose jobs are done as soon as they are given.
 
-ghost use Rattle.std.specs.Prelude.{◌≤◌};
-
 use crate::MEMORY;
 use crate::pages::Pages;
-use file_messages::{Completion, CopyKind, FileFault, WorkResult};
+use file_messages::{Completion, CopyKind, FileFault};
 use file_transfer::FileServer;
 use smbd_base::Message;
 use std::alloc::Global;
@@ -67,23 +65,13 @@ impl Serving {
         true
     }
 
-    /// The next job is refused with this status.
-    pub fn refuse(&mut self, status: u16) -> bool
-        requires least { 1 ≤ status }
-        requires most { status ≤ 6 }
-    {
-        let Some(job) = self.machine.next_job() else {
-            return false;
-        };
-        self.machine.completed(Completion {
-            number: job.number,
-            result: WorkResult::Refused(status),
-        });
-        true
-    }
-
     pub fn next_message(&mut self, rt: &impl Abort) -> Option<Message> {
         self.machine.next_message().expect(rt, MEMORY)
+    }
+
+    /// Whether a reply is due, which is taken.
+    pub fn replies(&mut self, rt: &impl Abort) -> bool {
+        self.next_message(rt).is_some()
     }
 
     pub fn stored(&mut self) -> Option<Message> {
