@@ -77,13 +77,16 @@ fn arrive(rt: &impl Abort, alloc: Global, case: &PutCase) {
     assert!(rt; pages.loads_of(15) == Some(case.loads.1));
 }
 
+/// 101 bytes.
+fn text() -> &'static [u8] {
+    b"abcdefghijklmnopqrstuvwxyzABCDEFGHIJKLMNOPQRSTUVWXYZ0123456789the quick brown fox jumps over the lazy"
+}
+
 /// The same 101 bytes again and again, so that no two of the first 101 pages are the same: so many of them, at most 400,061.
 pub fn bytes_of(rt: &impl Abort, alloc: Global, count: usize) -> Vec<u8> {
-    const TEXT: &[u8; 101] =
-        b"abcdefghijklmnopqrstuvwxyzABCDEFGHIJKLMNOPQRSTUVWXYZ0123456789the quick brown fox jumps over the lazy";
     let mut bytes = Vec::with_capacity(alloc, 400_061).expect(rt, MEMORY);
     for _turn in 0..3_961 {
-        bytes.extend_from_slice(TEXT).expect(rt, MEMORY);
+        bytes.extend_from_slice(text()).expect(rt, MEMORY);
     }
     bytes.truncate(count);
     assert!(rt; bytes.len() == count);
