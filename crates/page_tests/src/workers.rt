@@ -7,7 +7,7 @@ use buffer_descriptor::Descriptor;
 use event_log::LogLine;
 use file_messages::{Job, Work, WorkResult};
 use page_slots::Passes;
-use page_workers::{One, Worker, run_workers};
+use page_workers::{One, Worker, run_workers, worker_for};
 use registration::Region;
 use smbd_base::{Message, Right, Token};
 use std::alloc::Global;
@@ -169,4 +169,17 @@ fn a_worker_keeps_what_is_not_fit(rt: HostRuntime) {
     let (mut region, mut passes) = Region::open(alloc, 16, 1, 1).expect(&rt, MEMORY);
     let mut workers = [worker(&rt, alloc, 8, &mut passes)];
     load_17(&rt, alloc, &mut region, &mut workers);
+}
+
+#[test]
+fn work_goes_to_the_worker_of_its_page(rt: HostRuntime) {
+    let fetch = Work::Fetch { descriptor: THREE };
+    let unload = Work::Unload {
+        token: Token::new(13, 2),
+    };
+    assert!(&rt; worker_for(&fetch, 4) == 2);
+    assert!(&rt; worker_for(&unload, 4) == 2);
+    assert!(&rt; worker_for(&unload, 8) == 6);
+    assert!(&rt; worker_for(&unload, 1) == 1);
+    assert!(&rt; worker_for(&load(&rt, rt.alloc(), 3, Right::Fetch), 4) == 4);
 }
