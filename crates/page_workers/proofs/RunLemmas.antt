@@ -59,7 +59,7 @@ run-issue number token right len waiting (x ∷ jobs) [] made c says h =
           (subst (λ (d : Completion). IsDone (load_job number token.page right was.bytes) d (events.Load token right was.bytes)) (sym says)
           (record {
             number = refl;
-            done = record { page_is = refl; right_is = refl; bytes_are = refl; named = ap (λ (n : ℕ). descriptor_of_page token n) was.length_is };
+            done = record { lawful = was.lawful; page_is = refl; right_is = refl; bytes_are = refl; named = ap (λ (n : ℕ). descriptor_of_page token n) was.length_is };
           })),
       (h.1, refl),
     )

@@ -149,6 +149,7 @@ went-by a r s line (keeps.Fresh j) Refused is h = undone a r s line (keeps.Fresh
 went-by a r s line (keeps.Fresh j) (Begun (keeps.Loaded number token right len)) is h =
     stays a r s line (keeps.Fresh j) is (keeps.Loaded number token right len) (events.Load token right h.bytes ∷ [])
     (λ x before this. record {
+      lawful = h.lawful;
       bytes = h.bytes;
       length_is = h.length_is;
       job_is = this.0 ∙ h.load_is;

@@ -4,7 +4,7 @@ use Rattle.smbd_base.specs.declared.token.TheConstants.{PAGE_SIZE}
 use Rattle.smbd_base.specs.declared.right.Right.{Right}
 use Rattle.smbd_base.specs.declared.page_event.PageEvent.{PageEvent}
 use Rattle.smbd_base.specs.declared.page_event.PageEvent.TheVariants as events
-use Rattle.smbd_base.specs.Tokens.{PageToken, number_of}
+use Rattle.smbd_base.specs.Tokens.{PageToken, IsToken, number_of}
 use Rattle.buffer_descriptor.specs.declared.descriptor.Descriptor.{Descriptor}
 use Rattle.file_messages.specs.declared.job.Job.{Job}
 use Rattle.file_messages.specs.declared.job.Work.{Work}
@@ -17,6 +17,7 @@ use Rattle.remote_access.specs.Covers.{place_in_page}
 
 -- a load of a page: it has the page's next token, which its descriptor names
 pub record IsLoad (page : ℕ) (right : Right) (bytes : List ℕ) (d : Descriptor) (token : PageToken) (given : Right) (loaded : List ℕ) : Type 0 where
+  pub lawful : IsToken token
   pub page_is : token.page ≡ page
   pub right_is : given ≡ right
   pub bytes_are : loaded ≡ bytes

@@ -6,6 +6,11 @@ use Rattle.file_messages.specs.declared.job.Job.{Job}
 use Rattle.file_messages.specs.declared.job.Completion.{Completion}
 use Rattle.registration.specs.Regions.{RegionState}
 use Rattle.page_workers.specs.declared.kept.Kept.{Kept}
+use Rattle.file_messages.specs.declared.job.Work.{Work}
+use Rattle.file_messages.specs.declared.job.Work.TheVariants.{Load, Fetch, Place, Unload}
+use Rattle.file_pasts.specs.ClientPast.{IsOfKind}
+use Rattle.file_pasts.specs.ServerDue.{Fits}
+use Rattle.page_workers.specs.Jobs.{IsDone}
 use Rattle.page_workers.specs.Runs.{JobRun}
 use Rattle.page_workers.specs.Workers.{AreSteps}
 
@@ -28,3 +33,18 @@ with_events pass (e ∷ made) past = with_events pass made (record { pass = pass
 abbrev pub StepsExtendPasts : Type 0
 StepsExtendPasts = (first count pass : ℕ) (past : List Entry) (made : List PageEvent) (a b : RegionState)
     → IsPoolRun first count past a.pages → AreSteps made a b → IsPoolRun first count (with_events pass made past) b.pages
+
+-- the completion of a finished job answers the client that gave the job
+abbrev pub AnswersClients : Type 0
+AnswersClients = (j : Job) (c : Completion) (e : PageEvent) → IsDone j c e → IsOfKind j.work c.result
+
+-- a server gives Fetches and Places alone
+abbrev pub IsOfServer : Work → Type 0
+IsOfServer (Load page right bytes) = ⊥
+IsOfServer (Fetch d) = Unit {0}
+IsOfServer (Place d bytes) = Unit {0}
+IsOfServer (Unload token) = ⊥
+
+-- and it answers the server that gave it
+abbrev pub AnswersServers : Type 0
+AnswersServers = (j : Job) (c : Completion) (e : PageEvent) → IsOfServer j.work → IsDone j c e → Fits j.work c.result

@@ -3,7 +3,7 @@ use Rattle.std.specs.Prelude.{◌≡◌, ℕ, Option, Some, None, List, [], ◌�
 use Rattle.smbd_base.specs.declared.page_event.PageEvent.{PageEvent}
 use Rattle.smbd_base.specs.declared.page_event.PageEvent.TheVariants as events
 use Rattle.smbd_base.specs.declared.right.Right.{Right}
-use Rattle.smbd_base.specs.Tokens.{PageToken}
+use Rattle.smbd_base.specs.Tokens.{PageToken, IsToken}
 use Rattle.file_messages.specs.declared.job.Job.{Job}
 use Rattle.file_messages.specs.declared.job.Completion.{Completion}
 use Rattle.page_workers.specs.declared.kept.Kept.{Kept}
@@ -13,6 +13,7 @@ use Rattle.page_workers.specs.Tries.{load_job, unload_job}
 
 -- a Load whose page is loaded under this token, and whose record isn't issued
 pub record IsLoadedAlone (number : ℕ) (token : PageToken) (right : Right) (len : ℕ) (j : Job) (made : List PageEvent) : Type 0 where
+  pub lawful : IsToken token
   pub bytes : List ℕ
   pub length_is : len ≡ length bytes
   pub job_is : j ≡ load_job number token.page right bytes

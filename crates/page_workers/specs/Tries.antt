@@ -4,7 +4,7 @@ use Rattle.smbd_base.specs.declared.token.TheConstants.{PAGE_SIZE}
 use Rattle.smbd_base.specs.declared.right.Right.{Right}
 use Rattle.smbd_base.specs.declared.page_event.PageEvent.{PageEvent}
 use Rattle.smbd_base.specs.declared.page_event.PageEvent.TheVariants as events
-use Rattle.smbd_base.specs.Tokens.{PageToken}
+use Rattle.smbd_base.specs.Tokens.{PageToken, IsToken}
 use Rattle.smbd_base.specs.Pages.{IsPoolStep, page_at}
 use Rattle.buffer_descriptor.specs.declared.descriptor.Descriptor.{Descriptor}
 use Rattle.buffer_descriptor.specs.Descriptors.{IsSound, place_after}
@@ -130,6 +130,7 @@ IsAnswered work result s = ⊥
 
 -- the page of a load is loaded, and its record isn't issued
 pub record LoadsAlone (j : Job) (number : ℕ) (token : PageToken) (right : Right) (len : ℕ) (line : Option LogLine) (a b : RegionState) : Type 0 where
+  pub lawful : IsToken token
   pub bytes : List ℕ
   pub load_is : j ≡ load_job number token.page right bytes
   pub length_is : len ≡ length bytes

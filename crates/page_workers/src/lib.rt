@@ -17,7 +17,7 @@ mod worked;
 mod worker;
 
 pub use kept::{Kept, Tried};
-pub use laws::{jobs_are_done_in_turn, steps_extend_the_past};
+pub use laws::{finished_jobs_answer, jobs_are_done_in_turn, steps_extend_the_past};
 pub use run::run_workers;
 pub use turns::worker_for;
 pub use worked::worked_workers;

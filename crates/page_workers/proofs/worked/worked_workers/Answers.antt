@@ -1,12 +1,16 @@
-use Rattle.std.proofs.Common.{refl}
+use Rattle.std.proofs.Common.{refl, arith}
+use Rattle.smbd_base.specs.Tokens.{IsToken}
 use Rattle.std.specs.Prelude.{codes}
 use Rattle.smbd_base.specs.declared.page_event.PageEvent.TheVariants as events
 use Rattle.page_workers.specs.Jobs.{IsDone}
 use Rattle.page_workers.specs.Worked.{token, page, loads, loaded, load, unloads, unloaded, fetches, fetched}
 use Rattle.page_workers.proofs.worked.worked_workers.Goals as goal
 
+is_token : IsToken token
+is_token = record { page = omega arith; least = omega arith; most = omega arith }
+
 is_loaded : IsDone loads loaded load
-is_loaded = record { number = refl; done = record { page_is = refl; right_is = refl; bytes_are = refl; named = refl } }
+is_loaded = record { number = refl; done = record { lawful = is_token; page_is = refl; right_is = refl; bytes_are = refl; named = refl } }
 
 is_unloaded : IsDone unloads unloaded (events.Unload token page)
 is_unloaded = record { number = refl; done = record { token_is = refl; bytes_are = refl; whole = refl } }
@@ -20,7 +24,7 @@ returns-clause-so c = record {
   both = (is_loaded, (is_unloaded, (refl, refl)));
   access = (is_fetched, (refl, refl));
   waits = (is_loaded, (refl, refl));
-  unissued = (record { bytes = codes "abc"; length_is = refl; job_is = refl; made_is = refl }, refl);
+  unissued = (record { lawful = is_token; bytes = codes "abc"; length_is = refl; job_is = refl; made_is = refl }, refl);
   untried = ((refl, refl), refl);
 }
 
