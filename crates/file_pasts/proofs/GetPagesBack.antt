@@ -66,7 +66,7 @@ none_after low high (job ∷ later) s =
 
 -- ---- the job of a number
 
-at-front : (n : ℕ) (jobs more : List Job) (work : Work) → job_at n jobs ≡ Some work → job_at n (jobs ++ more) ≡ Some work
+pub at-front : (n : ℕ) (jobs more : List Job) (work : Work) → job_at n jobs ≡ Some work → job_at n (jobs ++ more) ≡ Some work
 at-front n [] more work e = absurd (let b : ⊥ = cc in b)
 at-front n (job ∷ later) more work e = by_test (job.number == n) e (at-front n later more work) where
   by_test : (t : Bool) → cond t (Some job.work) (job_at n later) ≡ Some work → (job_at n later ≡ Some work → job_at n (later ++ more) ≡ Some work)
@@ -74,11 +74,11 @@ at-front n (job ∷ later) more work e = by_test (job.number == n) e (at-front n
   by_test true h ih = h
   by_test false h ih = ih h
 
-at-other : (n m : ℕ) (jobs : List Job) (work : Work) → (m == n) ≡ false → job_at n (jobs ++ (record { number = m; work = work }) ∷ []) ≡ job_at n jobs
+pub at-other : (n m : ℕ) (jobs : List Job) (work : Work) → (m == n) ≡ false → job_at n (jobs ++ (record { number = m; work = work }) ∷ []) ≡ job_at n jobs
 at-other n m [] work e = ap (λ (t : Bool). cond t (Some work) None) e
 at-other n m (job ∷ later) work e = ap (λ (o : Option Work). cond (job.number == n) (Some job.work) o) (at-other n m later work e)
 
-at-new : (n : ℕ) (jobs : List Job) (work : Work) → job_at n jobs ≡ None → job_at n (jobs ++ (record { number = n; work = work }) ∷ []) ≡ Some work
+pub at-new : (n : ℕ) (jobs : List Job) (work : Work) → job_at n jobs ≡ None → job_at n (jobs ++ (record { number = n; work = work }) ∷ []) ≡ Some work
 at-new n [] work e = ap (λ (t : Bool). cond t (Some work) None) (same_number n)
 at-new n (job ∷ later) work e = by_test (job.number == n) e (at-new n later work) where
   by_test : (t : Bool) → cond t (Some job.work) (job_at n later) ≡ None → (job_at n later ≡ None → job_at n (later ++ (record { number = n; work = work }) ∷ []) ≡ Some work)
@@ -86,7 +86,7 @@ at-new n (job ∷ later) work e = by_test (job.number == n) e (at-new n later wo
   by_test true h ih = absurd (let b : ⊥ = cc in b)
   by_test false h ih = ih h
 
-at-without : (n m : ℕ) (jobs : List Job) → (m == n) ≡ false → job_at n (without_job m jobs) ≡ job_at n jobs
+pub at-without : (n m : ℕ) (jobs : List Job) → (m == n) ≡ false → job_at n (without_job m jobs) ≡ job_at n jobs
 at-without n m [] e = refl
 at-without n m (job ∷ later) e = by_test (job.number == m) refl (at-without n m later e) where
   by_test : (t : Bool) → (job.number == m) ≡ t → job_at n (without_job m later) ≡ job_at n later → job_at n (cond t later (job ∷ without_job m later)) ≡ cond (job.number == n) (Some job.work) (job_at n later)

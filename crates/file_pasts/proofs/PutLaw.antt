@@ -256,6 +256,22 @@ all-is channel pages ended gs w =
     let size : length (joined gs) ≡ total gs = length-joined gs in
     rw (same, size) refl
 
+grouped : (s : Setup) (past : List ClientEvent) → IsPut s past → IsGrouping (groups_in past)
+unfolding IsGrouping
+grouped s [] p = tt
+grouped s (Group bytes ∷ past) p = grouping-append (groups_in past) bytes (wants_parts s past p.0.0).1 p.0.1 p.0.2
+grouped s (End ∷ past) p = grouped s past p.1
+grouped s (Sent r ∷ past) p = grouped s past p.1
+grouped s (Replied m ∷ past) p = grouped s past p.1
+grouped s (Gave work ∷ past) p = grouped s past p.1
+grouped s (Completed c ∷ past) p = grouped s past p.1
+grouped s (Received bytes ∷ past) p = absurd p.0
+
+-- the groups that were handed in are those of their bytes
+pub groups_joined : (s : Setup) (past : List ClientEvent) → IsPut s past → groups_of (bytes_in past) ≡ groups_in past
+unfolding joined
+groups_joined s past p = parts-joined ((length (bytes_in past) + 65535) / 65536) (groups_in past) (grouped s past p) refl
+
 pub asks_front : (channel : Channel) (pages : ℕ) (past : List ClientEvent) → IsPut (put_over channel pages) past → NamesOwn (put_over channel pages) past
     → IsPrefix (requests_sent past) (put_requests channel pages (is_ended past) (bytes_in past))
 unfolding joined

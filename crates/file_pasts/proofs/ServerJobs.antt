@@ -257,7 +257,7 @@ pub record Jobs (kind : CopyKind) (bytes : List ℕ) (run : List Request) (past 
 none_taken : (n : ℕ) (works : List Work) → n ≡ 0 → take n works ≡ []
 none_taken n works e = ap (λ (k : ℕ). take k works) e
 
-jobs : (kind : CopyKind) (bytes : List ℕ) (run : List Request) (past : List ServerEvent) → IsServer kind past → AsksFor run past → NothingRefused past → FillsFrom kind bytes past → Jobs kind bytes run past
+pub jobs : (kind : CopyKind) (bytes : List ℕ) (run : List Request) (past : List ServerEvent) → IsServer kind past → AsksFor run past → NothingRefused past → FillsFrom kind bytes past → Jobs kind bytes run past
 jobs kind bytes run [] p a n f = record { works = refl }
 jobs kind bytes run (Asked m ∷ past) p a n f =
     let before : AsksFor run past = record { asked = prefix_before (messages_asked past) m _ a.asked; read = a.read } in

@@ -3,12 +3,14 @@
 ghost use Rattle.std.specs.Prelude.{◌≤◌};
 
 use crate::MEMORY;
+use crate::calls::{read_from, write_to};
 use buffer_descriptor::Descriptor;
 use event_log::LogLine;
 use file_messages::{Job, Work, WorkResult};
-use page_slots::Passes;
+use page_slots::{PagePass, Passes};
 use page_workers::{One, Worker, run_workers, worker_for};
 use registration::Region;
+use remote_access::Remote;
 use smbd_base::{Message, Right, Token};
 use std::alloc::Global;
 use std::process::Abort;
@@ -93,6 +95,13 @@ fn work_on_a_page(
     assert!(rt; peer.one(region).expect(rt, MEMORY) == One::Held);
 }
 
+/// Whether the token of page 1's first load gives no access any more.
+fn is_stale(region: &mut Region, pass: &mut PagePass) -> bool {
+    let mut out = [0; 3];
+    read_from(region, pass, &THREE, &mut out) == Remote::Stale
+        && write_to(region, pass, &THREE, b"abc") == Remote::Stale
+}
+
 fn worker(rt: &impl Abort, alloc: Global, number: u8, passes: &mut Passes) -> Worker
     requires least { 1 ≤ number }
     requires most { number ≤ 8 }
@@ -104,10 +113,12 @@ fn worker(rt: &impl Abort, alloc: Global, number: u8, passes: &mut Passes) -> Wo
 #[test]
 fn two_workers_share_a_page(rt: HostRuntime) {
     let alloc = rt.alloc();
-    let (mut region, mut passes) = Region::open(alloc, 16, 1, 2).expect(&rt, MEMORY);
+    let (mut region, mut passes) = Region::open(alloc, 16, 1, 3).expect(&rt, MEMORY);
     let mut owner = worker(&rt, alloc, 1, &mut passes);
     let mut peer = worker(&rt, alloc, 2, &mut passes);
     work_on_a_page(&rt, alloc, &mut region, &mut owner, &mut peer);
+    let mut other = passes.take().expect(&rt, "a pass");
+    assert!(&rt; is_stale(&mut region, &mut other));
     assert!(&rt; owner.number() == 1 && peer.number() == 2);
     assert!(&rt; tells_of_owner(owner.lines()));
     assert!(&rt; tells_of_peer(peer.lines()));

@@ -1,5 +1,5 @@
 -- A worker that went on, step by step.
-use Rattle.std.proofs.Common.{◌≡◌, ℕ, zero, suc, ◌+◌, ◌<◌, ◌≤◌, ◌⊎◌, take, drop, Bool, true, false, Option, Some, None, List, [], ◌∷◌, ◌++◌, length, map, refl, sym, ap, ◌∙◌, subst, arith, append_assoc, length-append}
+use Rattle.std.proofs.Common.{◌≡◌, ℕ, zero, suc, ◌+◌, ◌<◌, ◌≤◌, ◌⊎◌, inl, inr, take, drop, Bool, true, false, Option, Some, None, List, [], ◌∷◌, ◌++◌, length, map, refl, sym, ap, ◌∙◌, subst, arith, append_assoc, length-append}
 use Rattle.std.specs.Prelude.{option_to_list, slice_index_or, slice_set}
 use Rattle.std.proofs.lemmas.List.{append-nil, map-append}
 use Rattle.smbd_base.specs.declared.page_event.PageEvent.{PageEvent}
@@ -16,7 +16,7 @@ use Rattle.page_workers.specs.declared.kept.Tried.{Tried}
 use Rattle.page_workers.specs.declared.kept.Tried.TheVariants.{Finished, Begun, Refused}
 use Rattle.page_workers.specs.Tries.{HasTried, Finishes, IsUndone, IsStep, IsRefused, unload_job}
 use Rattle.page_workers.specs.Runs.{JobRun, IsKept}
-use Rattle.page_workers.specs.Workers.{WorkerState, AreSteps, WentOn, with_next, next_kept, after_try, is_finished, TriedOnce, IsIdle, IsHeld, HasRun, HaveRun}
+use Rattle.page_workers.specs.Workers.{WorkerState, AreSteps, WentOn, with_next, next_kept, after_try, is_finished, TriedOnce, IsIdle, IsHeld, HasFinished, HasTriedJobs, EndsRun, HasRun, HaveRun}
 use Rattle.page_workers.proofs.RunLemmas.{run-keep, run-finish, run-left, run-issue}
 
 -- ---- events one after another
@@ -207,28 +207,60 @@ held-tried a b r s t = by t.tried t.says t.tries t.after where
 pub sent-count : (a b : WorkerState) (r s : RegionState) (w : WentOn a b r s) → length b.done ≡ length a.done + length w.sent
 sent-count a b r s w = ap (λ (cs : List Completion). length cs) w.done ∙ length-append a.done w.sent
 
+-- one more job was finished
+pub finished-more : (n : ℕ) (a w b : WorkerState) (r q s : RegionState) → HasFinished n a w r q → TriedOnce (next_kept w) b q s true → HasFinished (suc n) a b r s
+finished-more zero a w b r q s h t =
+    (b, s, subst (λ (x : RegionState). TriedOnce (next_kept a) b x s true) h.1 (subst (λ (x : WorkerState). TriedOnce (next_kept x) b q s true) h.0 t), (refl, refl))
+finished-more (suc n) a w b r q s h t = (h.0, h.1, h.2, finished-more n h.0 w b h.1 q s h.3 t)
+
 -- what a worker did when it was called, told by how many completions were sent
 pub has-run : (a b : WorkerState) (r s : RegionState) (fed : Bool) (n : ℕ) → WentOn a b r s → length b.done ≡ length a.done + n → n ≤ 16
-    → (fed ≡ true → n < 16 → IsIdle b ⊎ IsHeld b s) → HasRun a b r s fed
-has-run a b r s fed n w count few all =
+    → HasTriedJobs n a b r s fed → (fed ≡ true → n < 16 → IsIdle b ⊎ IsHeld b s) → HasRun a b r s fed
+has-run a b r s fed n w count few tries all =
     let same : length w.sent ≡ n = omega (arith, sent-count a b r s w, count) in
     record {
       went = w;
       most = subst (λ (k : ℕ). k ≤ 16) (sym same) few;
+      tries = subst (λ (k : ℕ). HasTriedJobs k a b r s fed) (sym same) tries;
       all = λ f h. all f (subst (λ (k : ℕ). k < 16) same h);
     }
 
 -- ---- workers in turn
 
+-- where memory didn't run out, it makes no matter whether it may have
+ends-weaker : (n : ℕ) (a b : WorkerState) (r s : RegionState) (fed : Bool) → EndsRun n true a b r s → EndsRun n fed a b r s
+ends-weaker n a b r s fed (inl h) = inl h
+ends-weaker n a b r s fed (inr (inl h)) = inr (inl h)
+ends-weaker n a b r s fed (inr (inr (inl h))) = inr (inr (inl h))
+ends-weaker n a b r s fed (inr (inr (inr h))) = absurd (let no : ⊥ = cc in no)
+
 weaker : (a b : WorkerState) (r s : RegionState) (fed : Bool) → HasRun a b r s true → HasRun a b r s fed
-weaker a b r s fed h = record { went = h.went; most = h.most; all = λ f. h.all refl }
+weaker a b r s fed h = record {
+  went = h.went;
+  most = h.most;
+  tries = record {
+    worker = h.tries.worker;
+    region = h.tries.region;
+    finished = h.tries.finished;
+    ends = ends-weaker (length h.went.sent) h.tries.worker b h.tries.region s fed h.tries.ends;
+  };
+  all = λ f. h.all refl;
+}
 
 idle-all : (ws : List WorkerState) (r : RegionState) → HaveRun ws ws r r false
 unfolding went-same
 idle-all [] r = refl
 idle-all (w ∷ ws) r =
-    let no : false ≡ true → ⊥ = λ e. cc in
-    (r, record { went = went-same w r r refl; most = (let few : 0 ≤ 16 = omega arith in few); all = λ f h. absurd (no f) }, idle-all ws r)
+    let no : false ≡ true → ⊥ = λ e. cc in (
+      r,
+      record {
+        went = went-same w r r refl;
+        most = (let few : 0 ≤ 16 = omega arith in few);
+        tries = record { worker = w; region = r; finished = (refl, refl); ends = inr (inr (inr (refl, (inl refl, refl)))) };
+        all = λ f h. absurd (no f);
+      },
+      idle-all ws r,
+    )
 
 empty : (i : ℕ) → ◌≡◌ {A = List WorkerState} (drop i []) []
 empty zero = refl

@@ -1,5 +1,5 @@
 -- One try of a job: what it leaves, and what it makes of the region (this project's own).
-use Rattle.std.specs.Prelude.{◌≡◌, ℕ, ◌^◌, ◌≤◌, nat_le, nat_lt, ◌&&◌, Bool, Option, Some, None, List, length}
+use Rattle.std.specs.Prelude.{◌≡◌, ℕ, ◌^◌, ◌≤◌, nat_le, nat_lt, ◌&&◌, Bool, Option, Some, None, List, length, slice_set}
 use Rattle.smbd_base.specs.declared.token.TheConstants.{PAGE_SIZE}
 use Rattle.smbd_base.specs.declared.right.Right.{Right}
 use Rattle.smbd_base.specs.declared.page_event.PageEvent.{PageEvent}
@@ -16,15 +16,18 @@ use Rattle.file_messages.specs.declared.job.Work.TheVariants.{Load, Fetch, Place
 use Rattle.file_messages.specs.declared.job.WorkResult.{WorkResult}
 use Rattle.file_messages.specs.declared.job.WorkResult.TheVariants.{Loaded}
 use Rattle.file_messages.specs.declared.job.Completion.{Completion}
+use Rattle.page_slots.specs.declared.answers.Access.{Access}
 use Rattle.page_slots.specs.declared.answers.Access.TheVariants as accesses
 use Rattle.page_slots.specs.Answers.{unload_answer}
+use Rattle.token_table.specs.declared.record.Listed.{Listed}
+use Rattle.token_table.specs.declared.answers.Issue.{Issue}
 use Rattle.token_table.specs.declared.answers.Issue.TheVariants as issues
-use Rattle.token_table.specs.Tables.{listed_at, issue_answer}
+use Rattle.token_table.specs.Tables.{listed_at, issue_answer, with_record}
 use Rattle.registration.specs.declared.answers.Register.{Register}
 use Rattle.registration.specs.declared.answers.Register.TheVariants as registers
 use Rattle.registration.specs.declared.answers.Release.{Release}
 use Rattle.registration.specs.declared.answers.Release.TheVariants as releases
-use Rattle.registration.specs.Regions.{RegionState, IsAmong, descriptor_of_page, register_answer, release_answer}
+use Rattle.registration.specs.Regions.{RegionState, IsAmong, record_of, descriptor_of_page, next_token, register_answer, release_answer}
 use Rattle.remote_access.specs.declared.access.Remote.TheVariants as remotes
 use Rattle.remote_access.specs.Answers.{read_answer, write_answer}
 use Rattle.page_workers.specs.declared.kept.Kept.{Kept}
@@ -109,6 +112,22 @@ IsRefused (keeps.Withdrawn number token) s = IsAmong token.page s → unload_ans
 
 -- ---- what one try leaves
 
+-- the records with that of so many bytes of the token's page, which nobody holds
+abbrev pub issued : PageToken → Right → ℕ → RegionState → List (Option Listed)
+issued token right len s = with_record s.table (record_of token right len) 0
+
+-- the records without that of the token's page
+abbrev pub withdrawn : PageToken → RegionState → List (Option Listed)
+withdrawn token s = slice_set s.table token.page None
+
+-- the records after a job that is finished at its first try: a Load issues that of its page, an Unload takes it away, and an access
+-- leaves them as they were
+abbrev pub records_after : Work → RegionState → List (Option Listed)
+records_after (Load page right bytes) s = issued (next_token page s.pages) right (length bytes) s
+records_after (Fetch d) s = s.table
+records_after (Place d bytes) s = s.table
+records_after (Unload token) s = withdrawn token s
+
 -- the event is the next one of its page
 abbrev pub IsStep : PageEvent → RegionState → RegionState → Type 0
 IsStep e a b = IsPoolStep e a.pages b.pages
@@ -136,19 +155,26 @@ pub record LoadsAlone (j : Job) (number : ℕ) (token : PageToken) (right : Righ
   pub length_is : len ≡ length bytes
   pub step : IsStep (events.Load token right bytes) a b
   pub told : line ≡ Some (logged_page (events.Load token right bytes))
+  pub issue : Issue
+  pub answered : register_answer token.page len a ≡ registers.Unissued token issue
+  pub records : b.table ≡ a.table
   pub refused : IsRefused (keeps.Loaded number token right len) b
 
 -- the record of a page that was loaded before is issued
-pub record Issues (number : ℕ) (token : PageToken) (len : ℕ) (c : Completion) (line : Option LogLine) (a b : RegionState) : Type 0 where
+pub record Issues (number : ℕ) (token : PageToken) (right : Right) (len : ℕ) (c : Completion) (line : Option LogLine) (a b : RegionState) : Type 0 where
   pub says : c ≡ record { number = number; result = Loaded (descriptor_of_page token len) }
-  pub issued : issue_answer (listed_at token.page a.table) ≡ issues.Done
+  pub answered : issue_answer (listed_at token.page a.table) ≡ issues.Done
   pub pages : b.pages ≡ a.pages
+  pub records : b.table ≡ issued token right len a
   pub silent : line ≡ None
 
 -- the record of an unload is gone, and its page is loaded still
 pub record WithdrawsAlone (j : Job) (number : ℕ) (token : PageToken) (line : Option LogLine) (a b : RegionState) : Type 0 where
   pub unload_is : j ≡ unload_job number token
   pub pages : b.pages ≡ a.pages
+  pub access : Access
+  pub answered : release_answer token a ≡ releases.Withdrawn access
+  pub records : b.table ≡ withdrawn token a
   pub silent : line ≡ None
   pub refused : IsRefused (keeps.Withdrawn number token) b
 
@@ -159,11 +185,11 @@ pub record IsUndone (kept : Kept) (line : Option LogLine) (a b : RegionState) : 
   pub refused : IsRefused kept a
 
 abbrev pub HasTried : Kept → Tried → Option LogLine → RegionState → RegionState → Type 0
-HasTried (keeps.Fresh j) (Finished c) line a b = Finishes j c line a b × IsAnswered j.work c.result a
+HasTried (keeps.Fresh j) (Finished c) line a b = Finishes j c line a b × IsAnswered j.work c.result a × (b.table ≡ records_after j.work a)
 HasTried (keeps.Fresh j) (Begun (keeps.Loaded number token right len)) line a b = LoadsAlone j number token right len line a b
 HasTried (keeps.Fresh j) (Begun (keeps.Withdrawn number token)) line a b = WithdrawsAlone j number token line a b
-HasTried (keeps.Loaded number token right len) (Finished c) line a b = Issues number token len c line a b
+HasTried (keeps.Loaded number token right len) (Finished c) line a b = Issues number token right len c line a b
 HasTried (keeps.Withdrawn number token) (Finished c) line a b =
-    Finishes (unload_job number token) c line a b × (unload_answer token (page_at token.page a.pages) ≡ accesses.Done)
+    Finishes (unload_job number token) c line a b × (unload_answer token (page_at token.page a.pages) ≡ accesses.Done) × (b.table ≡ a.table)
 HasTried kept Refused line a b = IsUndone kept line a b
 HasTried kept tried line a b = ⊥

@@ -1,5 +1,5 @@
 -- A worker, and what a call leaves of it (this project's own).
-use Rattle.std.specs.Prelude.{◌≡◌, ℕ, ◌≤◌, ◌<◌, ◌⊎◌, ◌++◌, Bool, true, false, option_to_list, Option, Some, None, List, [], ◌∷◌, length, map}
+use Rattle.std.specs.Prelude.{◌≡◌, ℕ, zero, suc, ◌≤◌, ◌<◌, ◌⊎◌, ◌++◌, Bool, true, false, option_to_list, Option, Some, None, List, [], ◌∷◌, length, map}
 use Rattle.smbd_base.specs.declared.page_event.PageEvent.{PageEvent}
 use Rattle.event_log.specs.declared.log_line.LogLine.{LogLine}
 use Rattle.event_log.specs.Lines.{logged_page}
@@ -10,6 +10,8 @@ use Rattle.page_workers.specs.declared.kept.Kept.{Kept}
 use Rattle.page_workers.specs.declared.kept.Kept.TheVariants.{Fresh}
 use Rattle.page_workers.specs.declared.kept.Tried.{Tried}
 use Rattle.page_workers.specs.declared.kept.Tried.TheVariants.{Finished, Begun, Refused}
+use Rattle.page_workers.specs.declared.answer.One.{One}
+use Rattle.page_workers.specs.declared.answer.One.TheVariants.{Did, Held, Idle}
 use Rattle.page_workers.specs.Tries.{HasTried, IsRefused, IsStep}
 use Rattle.page_workers.specs.Runs.{JobRun}
 
@@ -84,10 +86,37 @@ pub record IsHeld (w : WorkerState) (s : RegionState) : Type 0 where
   pub kept_is : w.kept ≡ Some kept
   pub refused : IsRefused kept s
 
+-- what one call of a worker came to: its next job was tried once, and is finished or not; or there is none
+abbrev pub HasAnswered : One → WorkerState → WorkerState → RegionState → RegionState → Type 0
+HasAnswered Did a b r s = TriedOnce (next_kept a) b r s true
+HasAnswered Held a b r s = TriedOnce (next_kept a) b r s false
+HasAnswered Idle a b r s = IsIdle a × (b ≡ a) × (s ≡ r)
+
+-- without memory no job was tried; the next one may be kept
+abbrev pub IsUntried : WorkerState → WorkerState → RegionState → RegionState → Type 0
+IsUntried a b r s = ((b ≡ a) ⊎ (b ≡ next_kept a)) × (s ≡ r)
+
+-- so many jobs were finished one after another, each at its first try
+abbrev pub HasFinished : ℕ → WorkerState → WorkerState → RegionState → RegionState → Type 0
+HasFinished zero a b r s = (b ≡ a) × (s ≡ r)
+HasFinished (suc n) a b r s = (w : WorkerState) × (q : RegionState) × TriedOnce (next_kept a) w r q true × HasFinished n w b q s
+
+-- what comes after the finished jobs: one more try whose job isn't finished; or none, since they are 16, or no job is left, or memory ran out
+abbrev pub EndsRun : ℕ → Bool → WorkerState → WorkerState → RegionState → RegionState → Type 0
+EndsRun n fed a b r s = ((n ≡ 16) × (b ≡ a) × (s ≡ r)) ⊎ HasAnswered Held a b r s ⊎ HasAnswered Idle a b r s ⊎ ((fed ≡ false) × IsUntried a b r s)
+
+-- the tries of one call, one after another: so many jobs were finished
+pub record HasTriedJobs (n : ℕ) (a b : WorkerState) (r s : RegionState) (fed : Bool) : Type 0 where
+  pub worker : WorkerState
+  pub region : RegionState
+  pub finished : HasFinished n a worker r region
+  pub ends : EndsRun n fed worker b region s
+
 -- what a worker did when it was called: at most 16 jobs; fewer where none is left, or one is refused, or memory ran out
 pub record HasRun (a b : WorkerState) (r s : RegionState) (fed : Bool) : Type 0 where
   pub went : WentOn a b r s
   pub most : length went.sent ≤ 16
+  pub tries : HasTriedJobs (length went.sent) a b r s fed
   pub all : fed ≡ true → length went.sent < 16 → IsIdle b ⊎ IsHeld b s
 
 -- the workers did their jobs in turn, each after those before it

@@ -6,6 +6,7 @@
 #![tactic(auto)]
 
 mod accesses;
+mod answer;
 mod kept;
 mod laws;
 mod loads;
@@ -16,9 +17,10 @@ mod unloads;
 mod worked;
 mod worker;
 
+pub use answer::One;
 pub use kept::{Kept, Tried};
 pub use laws::{finished_jobs_answer, jobs_are_done_in_turn, steps_extend_the_past};
 pub use run::run_workers;
 pub use turns::worker_for;
 pub use worked::worked_workers;
-pub use worker::{One, Worker};
+pub use worker::Worker;

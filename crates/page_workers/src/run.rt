@@ -3,7 +3,8 @@
 ghost use Rattle.std.specs.Prelude.{◌≡◌, ◌≤◌, ◌+◌, length, is_ok};
 ghost use Rattle.page_workers.specs.Workers.{HasRun, HaveRun};
 
-use crate::worker::{One, Worker};
+use crate::answer::One;
+use crate::worker::Worker;
 use registration::Region;
 use smbd_base::NoMemory;
 

@@ -1,8 +1,9 @@
 //! A worker.
 
 ghost use Rattle.std.specs.Prelude.{◌≡◌, ◌≢◌, ◌≤◌, ◌<◌, ◌+◌, vec_len, vec_capacity, ◌++◌, ◌∷◌, [], None, Some, true, false, Ok, length, drop, option_to_list, IfOk, OnOk, OnErr};
-ghost use Rattle.page_workers.specs.Workers.{WorkerState, opened, next_kept, TriedOnce, WentOn, IsIdle, IsHeld};
+ghost use Rattle.page_workers.specs.Workers.{WorkerState, opened, next_kept, TriedOnce, HasAnswered, IsUntried, WentOn, IsIdle, IsHeld};
 
+use crate::answer::One;
 use crate::kept::{Kept, Tried};
 use crate::tries::{Attempt, room_for, try_once};
 use event_log::LogLine;
@@ -33,17 +34,6 @@ impl Model for Worker {
     ghost Value = { WorkerState };
 
     ghost view = { λ w. record { number = w.number; pass = w.pass; kept = w.kept; waiting = w.waiting.items; done = w.done.items; lines = w.lines.items } };
-}
-
-/// What one call of a worker came to.
-#[derive(Clone, Copy, Debug, PartialEq, Eq)]
-pub enum One {
-    /// A job was finished.
-    Did,
-    /// The region refused the job, which is kept.
-    Held,
-    /// There is no job.
-    Idle,
 }
 
 /// Adds a line, if there is one, in the room that was made.
@@ -118,6 +108,7 @@ impl Worker {
         ensures next { self.new ≡ next_kept self.old }
         ensures some { result ≡ true → self.new.kept ≢ None }
         ensures none { result ≡ false → IsIdle self.new }
+        ensures same { result ≡ false → self.new ≡ self.old }
     {
         match &self.kept {
             Some(_) => return true,
@@ -163,6 +154,8 @@ impl Worker {
 
     /// Tries the next job once.
     pub fn one(&mut self, region: &mut Region) -> Result<One, NoMemory>
+        ensures tried { IfOk result (λ one. HasAnswered one self.old self.new region.old region.new) }
+        ensures untried { OnErr result (IsUntried self.old self.new region.old region.new) }
         ensures went { WentOn self.old self.new region.old region.new }
         ensures did { result ≡ Ok One.Did → length self.new.done ≡ length self.old.done + 1 }
         ensures held { result ≡ Ok One.Held → IsHeld self.new region.new }

@@ -15,4 +15,4 @@ returns-in-Released-clause-tried c =
     let says : List ℕ → Tried = λ bytes. Finished (record { number = c.args.number; result = Unloaded bytes }) in
     let tried : c.unloaded.result.tried ≡ says out = c.unloaded.ensures.tried ∙ ap says (filled out c.args.room.items c.args.room.len (whole ∙ sym c.requires)) in
     tried-as (Fresh (unload_job c.args.number c.args.token)) _ _ _ _ c.args.region.now c.release.new.self tried c.unloaded.ensures.line
-    (unload-done c.args.number c.args.token out c.args.region.now c.release.new.self whole c.in-Released.ensures.leaves.0, sym c.in-Released.ensures.answer)
+    (unload-done c.args.number c.args.token out c.args.region.now c.release.new.self whole c.in-Released.ensures.leaves.0, sym c.in-Released.ensures.answer, c.in-Released.ensures.leaves.1)

@@ -14,4 +14,4 @@ returns-in-Done-clause-tried c =
     let says : List ℕ → Tried = λ bytes. Finished (record { number = c.args.number; result = Unloaded bytes }) in
     let tried : c.unloaded.result.tried ≡ says out = c.unloaded.ensures.tried ∙ ap says (filled out c.args.room.items c.args.room.len (whole ∙ sym c.requires)) in
     tried-as (Withdrawn c.args.number c.args.token) _ _ _ _ c.args.region.now c.retry_unload.new.self tried c.unloaded.ensures.line
-    (unload-done c.args.number c.args.token out c.args.region.now c.retry_unload.new.self whole (c.retry_unload.ensures.done c.in-Done.is), sym c.in-Done.ensures.answer)
+    (unload-done c.args.number c.args.token out c.args.region.now c.retry_unload.new.self whole (c.retry_unload.ensures.done c.in-Done.is), sym c.in-Done.ensures.answer, c.retry_unload.ensures.table)
