@@ -1,0 +1,10 @@
+pub mod Kinds
+pub mod Shares
+pub mod ClientDone
+pub mod ServerDone
+pub mod Coupled
+pub mod PagesOfCopies
+pub mod Laws
+pub mod Steps
+pub mod Growing
+pub mod Worked
