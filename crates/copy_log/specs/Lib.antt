@@ -1,0 +1,3 @@
+pub mod CopyLogs
+pub mod Laws
+pub mod Worked
