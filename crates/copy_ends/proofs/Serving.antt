@@ -1,0 +1,177 @@
+-- The server's machine and its end after a turn.
+use Rattle.std.proofs.Common.{◌≡◌, ℕ, Bool, true, false, not, Option, Some, None, Result, Ok, Err, List, [], ◌∷◌, ◌++◌, refl, sym, ap, ◌∙◌, subst, append-nil, append_assoc}
+use Rattle.std.specs.Prelude.{option_map, option_to_list, IfOk, OnOk}
+use Rattle.std.proofs.lemmas.List.{map-append}
+use Rattle.smbd_base.specs.declared.end_id.EndId.TheVariants as side
+use Rattle.smbd_base.specs.declared.no_memory.NoMemory.{NoMemory}
+use Rattle.smbd_base.specs.Delivery.{messages_delivered}
+use Rattle.smbd_base.specs.History.{messages_submitted}
+use Rattle.world_core.specs.Run.{State}
+use Rattle.file_messages.specs.declared.fault.FileFault.{FileFault}
+use Rattle.file_messages.specs.declared.fault.FileFault.TheVariants as faults
+use Rattle.file_messages.specs.declared.kind.CopyKind.{CopyKind}
+use Rattle.file_messages.specs.declared.message.Reply.{Reply}
+use Rattle.file_messages.specs.Messages.{reply_bytes}
+use Rattle.file_pasts.specs.ServerDue.{ServerEvent, Asked, Filled, Gave, Completed, Replied, Stored, replies, next_reply}
+use Rattle.file_server.specs.declared.server.FileServer.{FileServer}
+use Rattle.file_server.specs.ServerStands.{CameBy, after_request, after_replying}
+use Rattle.copy_ends.specs.Turns.{IsUp, HasTurned, heard_if, TakesNothing, IsIdle, IsAtRest, IsSendable}
+use Rattle.copy_ends.specs.Ends.{ServerStands, IsServing, ServerGoesOn, HasNoReply, MayServe, lacks_memory}
+use Rattle.copy_ends.proofs.Sizes.{reply_sendable}
+use Rattle.copy_ends.proofs.Turning.{rests}
+
+-- ---- what a turn leaves
+
+pub quiet : (kind : CopyKind) (past : List ServerEvent) (m : FileServer) (old new : State) → ServerStands kind past m old → HasTurned side.Server [] [] old new → ServerStands kind past m new
+quiet kind past m old new h t = record {
+  came = h.came;
+  sent = t.submitted ∙ append-nil (messages_submitted old.server) ∙ h.sent;
+  heard = h.heard ∙ sym (append-nil (messages_delivered side.Server old.server_limits old.server)) ∙ sym t.delivered;
+}
+
+asked : (kind : CopyKind) (past : List ServerEvent) (m n : FileServer) (message : List ℕ) (old new : State) → ServerStands kind past m old → HasTurned side.Server [] (message ∷ []) old new
+    → CameBy kind (Asked message ∷ past) n → ServerStands kind (Asked message ∷ past) n new
+asked kind past m n message old new h t came = record {
+  came = came;
+  sent = t.submitted ∙ append-nil (messages_submitted old.server) ∙ h.sent;
+  heard = ap (λ (ms : List (List ℕ)). ms ++ message ∷ []) h.heard ∙ sym t.delivered;
+}
+
+replied : (kind : CopyKind) (past : List ServerEvent) (m n : FileServer) (r : Reply) (old new : State) → ServerStands kind past m old → HasTurned side.Server (reply_bytes r ∷ []) [] old new
+    → CameBy kind (Replied r ∷ past) n → ServerStands kind (Replied r ∷ past) n new
+replied kind past m n r old new h t came = record {
+  came = came;
+  sent = t.submitted ∙ ap (λ (ms : List (List ℕ)). ms ++ reply_bytes r ∷ []) h.sent ∙ sym (map-append reply_bytes (replies past) (r ∷ []));
+  heard = h.heard ∙ sym (append-nil (messages_delivered side.Server old.server_limits old.server)) ∙ sym t.delivered;
+}
+
+-- ---- going on
+
+serving_more : (xs ys : List ServerEvent) → IsServing xs → IsServing ys → IsServing (xs ++ ys)
+serving_more [] ys x y = y
+serving_more (Asked m ∷ xs) ys x y = serving_more xs ys x y
+serving_more (Filled bytes ∷ xs) ys x y = absurd x
+serving_more (Gave work ∷ xs) ys x y = absurd x
+serving_more (Completed c ∷ xs) ys x y = absurd x
+serving_more (Replied r ∷ xs) ys x y = serving_more xs ys x y
+serving_more (Stored bytes ∷ xs) ys x y = absurd x
+
+not_resting : {A : Type 0} → false ≡ true → A
+not_resting e = absurd (let b : ⊥ = cc in b)
+
+pub still : (kind : CopyKind) (past : List ServerEvent) (m : FileServer) (w : State) → ServerStands kind past m w → ServerGoesOn kind past false m w
+still kind past m w h = record { later = past; talked = record { talk = []; only = tt; is = refl }; stands = h; at_rest = λ e. not_resting e }
+
+one_more : (kind : CopyKind) (past : List ServerEvent) (e : ServerEvent) (m : FileServer) (w : State) → IsServing (e ∷ []) → ServerStands kind (e ∷ past) m w → ServerGoesOn kind past false m w
+one_more kind past e m w only h = record { later = e ∷ past; talked = record { talk = e ∷ []; only = only; is = refl }; stands = h; at_rest = λ x. not_resting x }
+
+pub go_on : (kind : CopyKind) (past : List ServerEvent) (before after : Bool) (m n : FileServer) (v w : State) → (g : ServerGoesOn kind past before m v) → ServerGoesOn kind g.later after n w
+    → ServerGoesOn kind past after n w
+go_on kind past before after m n v w g h = record {
+  later = h.later;
+  talked = record {
+    talk = h.talked.talk ++ g.talked.talk;
+    only = serving_more h.talked.talk g.talked.talk h.talked.only g.talked.only;
+    is = h.talked.is ∙ ap (λ (p : List ServerEvent). h.talked.talk ++ p) g.talked.is ∙ sym (append_assoc h.talked.talk g.talked.talk past);
+  };
+  stands = h.stands;
+  at_rest = h.at_rest;
+}
+
+-- ---- a frame is taken
+
+pub heard_none : (kind : CopyKind) (past : List ServerEvent) (m : FileServer) (old new : State) (newest : Option (List ℕ)) → ServerStands kind past m old → None ≡ newest
+    → HasTurned side.Server [] (heard_if true newest) old new → ServerGoesOn kind past false m new
+heard_none kind past m old new newest h none t =
+    still kind past m new (quiet kind past m old new h (subst (λ (o : Option (List ℕ)). HasTurned side.Server [] (option_to_list o) old new) (sym none) t))
+
+taken_by : (r : Result Unit FileFault) (message : List ℕ) (past : List ServerEvent) → lacks_memory r ≡ false → after_request r message past ≡ Asked message ∷ past
+taken_by (Ok u) message past e = refl
+taken_by (Err faults.Short) message past e = refl
+taken_by (Err faults.Op) message past e = refl
+taken_by (Err faults.Channel) message past e = refl
+taken_by (Err faults.Count) message past e = refl
+taken_by (Err faults.Length) message past e = refl
+taken_by (Err faults.Overlap) message past e = refl
+taken_by (Err faults.Order) message past e = refl
+taken_by (Err faults.NoMemory) message past e = absurd (let b : ⊥ = cc in b)
+
+pub heard_one : (kind : CopyKind) (past : List ServerEvent) (m n : FileServer) (r : Result Unit FileFault) (message : List ℕ) (old new : State) (newest : Option (List ℕ))
+    → ServerStands kind past m old → Some message ≡ newest → HasTurned side.Server [] (heard_if true newest) old new → lacks_memory r ≡ false → CameBy kind (after_request r message past) n
+    → ServerGoesOn kind past false n new
+heard_one kind past m n r message old new newest h some t taken came =
+    one_more kind past (Asked message) n new tt
+    (asked kind past m n message old new h (subst (λ (o : Option (List ℕ)). HasTurned side.Server [] (option_to_list o) old new) (sym some) t)
+    (subst (λ (p : List ServerEvent). CameBy kind p n) (taken_by r message past taken) came))
+
+-- ---- a reply is given
+
+-- this reply is due, with these bytes
+record IsDue (kind : CopyKind) (past : List ServerEvent) (message : List ℕ) : Type 0 where
+  reply : Reply
+  due : next_reply kind past ≡ Some reply
+  bytes : message ≡ reply_bytes reply
+
+due_by : (o : Option Reply) (message : List ℕ) → Some message ≡ option_map reply_bytes o → (r : Reply) × (o ≡ Some r) × (message ≡ reply_bytes r)
+due_by None message e = absurd (let b : ⊥ = cc in b)
+due_by (Some r) message e = (r, refl, cc)
+
+is_due : (kind : CopyKind) (past : List ServerEvent) (message : List ℕ) → Some message ≡ option_map reply_bytes (next_reply kind past) → IsDue kind past message
+is_due kind past message e = let d = due_by (next_reply kind past) message e in record { reply = d.0; due = d.1; bytes = d.2 }
+
+pub fits : (kind : CopyKind) (past : List ServerEvent) (m : FileServer) (message : List ℕ) → CameBy kind past m → Some message ≡ option_map reply_bytes (next_reply kind past) → IsSendable message
+fits kind past m message came e =
+    let d = is_due kind past message e in
+    subst IsSendable (sym d.bytes) (reply_sendable kind past m d.reply came d.due)
+
+pub said_one : (kind : CopyKind) (past : List ServerEvent) (m n : FileServer) (message : List ℕ) (old new : State) → ServerStands kind past m old
+    → Some message ≡ option_map reply_bytes (next_reply kind past) → CameBy kind (after_replying (next_reply kind past) past) n → HasTurned side.Server (message ∷ []) [] old new
+    → ServerGoesOn kind past false n new
+said_one kind past m n message old new h e came t =
+    let d = is_due kind past message e in
+    one_more kind past (Replied d.reply) n new tt
+    (replied kind past m n d.reply old new h (subst (λ (x : List ℕ). HasTurned side.Server (x ∷ []) [] old new) d.bytes t)
+    (subst (λ (o : Option Reply). CameBy kind (after_replying o past) n) d.due came))
+
+none_due : (o : Option Reply) → None ≡ option_map reply_bytes o → o ≡ None
+none_due None e = refl
+none_due (Some r) e = absurd (let b : ⊥ = cc in b)
+
+pub says_none : (kind : CopyKind) (past : List ServerEvent) (m n : FileServer) (old : State) → ServerStands kind past m old → None ≡ option_map reply_bytes (next_reply kind past)
+    → CameBy kind (after_replying (next_reply kind past) past) n → HasNoReply kind past n old old
+says_none kind past m n old h e came =
+    let none = none_due (next_reply kind past) e in
+    record {
+      due = none;
+      same = refl;
+      stands = record { came = subst (λ (o : Option Reply). CameBy kind (after_replying o past) n) none came; sent = h.sent; heard = h.heard };
+    }
+
+-- ---- a whole turn
+
+-- a turn in which nothing was done leaves nothing to do
+pub served : (kind : CopyKind) (past : List ServerEvent) (m n k : FileServer) (old v w x : State) (r : Result Bool NoMemory) → ServerStands kind past m old
+    → HasTurned side.Server [] [] old v → IsIdle side.Server v
+    → (ServerStands kind past m v → ServerGoesOn kind past false n w) → TakesNothing side.Server v w
+    → ((later : List ServerEvent) → ServerStands kind later n w → OnOk r (ServerGoesOn kind later false k x))
+    → ((later : List ServerEvent) → ServerStands kind later n w → IfOk r (λ sent. sent ≡ false → HasNoReply kind later k w x))
+    → IfOk r (λ did. ServerGoesOn kind past (not did) k x)
+served kind past m n k old v w x (Err fault) h t idle taken none said due = tt
+served kind past m n k old v w x (Ok true) h t idle taken none said due =
+    let g = taken (quiet kind past m old v h t) in
+    go_on kind past false false n k w x g (said g.later g.stands)
+served kind past m n k old v w x (Ok false) h t idle taken none said due =
+    let g = taken (quiet kind past m old v h t) in
+    let q = due g.later g.stands refl in
+    record {
+      later = g.later;
+      talked = g.talked;
+      stands = q.stands;
+      at_rest = λ e. record { end = subst (λ (s : State). IsAtRest side.Server s) (sym q.same) (rests side.Server v w t.up idle none); due = q.due };
+    }
+
+-- ---- a round
+
+-- what the turns so far have left may go on
+pub may_serve : (kind : CopyKind) (past : List ServerEvent) (m n : FileServer) (v w : State) → ServerStands kind past m v → IsUp w → ServerGoesOn kind past false n w → MayServe n w
+may_serve kind past m n v w h up g = record { up = up; kind = kind; past = g.later; stands = g.stands }
