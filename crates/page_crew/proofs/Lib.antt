@@ -1,0 +1,6 @@
+pub mod Opening
+pub mod InTurn
+pub mod CrewOf
+pub mod Giving
+pub mod Taking
+pub mod Running
