@@ -1,0 +1,9 @@
+pub mod Pairs
+pub mod TextLines
+pub mod SideLines
+pub mod Histories
+pub mod PageShapes
+pub mod PageBytes
+pub mod PageTokens
+pub mod PageKinds
+pub mod Fixing
