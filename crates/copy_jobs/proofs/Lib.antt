@@ -1,0 +1,4 @@
+pub mod Same
+pub mod JobsLeft
+pub mod Handing
+pub mod Giving
