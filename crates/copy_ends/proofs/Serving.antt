@@ -1,49 +1,115 @@
 -- The server's machine and its end after a turn.
-use Rattle.std.proofs.Common.{◌≡◌, ℕ, Bool, true, false, not, Option, Some, None, Result, Ok, Err, List, [], ◌∷◌, ◌++◌, refl, sym, ap, ◌∙◌, subst, append-nil, append_assoc}
+use Rattle.std.proofs.Common.{◌≡◌, ℕ, ◌+◌, ◌≤◌, Bool, true, false, not, Option, Some, None, Result, Ok, Err, List, [], ◌∷◌, ◌++◌, length, map, refl, sym, ap, ◌∙◌, subst, append-nil, append_assoc, length-append, arith}
 use Rattle.std.specs.Prelude.{option_map, option_to_list, IfOk, OnOk}
-use Rattle.std.proofs.lemmas.List.{map-append}
+use Rattle.std.proofs.lemmas.List.{map-append, length-map}
 use Rattle.smbd_base.specs.declared.end_id.EndId.TheVariants as side
+use Rattle.smbd_base.specs.declared.event.Event.{Event}
 use Rattle.smbd_base.specs.declared.no_memory.NoMemory.{NoMemory}
 use Rattle.smbd_base.specs.Delivery.{messages_delivered}
 use Rattle.smbd_base.specs.History.{messages_submitted}
+use Rattle.smbd_base.specs.Limits.{Limits}
 use Rattle.world_core.specs.Run.{State}
 use Rattle.file_messages.specs.declared.fault.FileFault.{FileFault}
 use Rattle.file_messages.specs.declared.fault.FileFault.TheVariants as faults
 use Rattle.file_messages.specs.declared.kind.CopyKind.{CopyKind}
 use Rattle.file_messages.specs.declared.message.Reply.{Reply}
+use Rattle.file_messages.specs.declared.message.Request.{Request}
 use Rattle.file_messages.specs.Messages.{reply_bytes}
-use Rattle.file_pasts.specs.ServerDue.{ServerEvent, Asked, Filled, Gave, Completed, Replied, Stored, replies, next_reply}
+use Rattle.file_pasts.specs.ServerDue.{ServerEvent, Asked, Filled, Gave, Completed, Replied, Stored, replies, next_reply, Requests, requests, judgement, with_judged}
+use Rattle.file_pasts.specs.ServerLaws.{messages_asked}
 use Rattle.file_server.specs.declared.server.FileServer.{FileServer}
 use Rattle.file_server.specs.ServerStands.{CameBy, after_request, after_replying}
-use Rattle.copy_ends.specs.Turns.{IsUp, HasTurned, heard_if, TakesNothing, IsIdle, IsAtRest, IsSendable}
-use Rattle.copy_ends.specs.Ends.{ServerStands, IsServing, ServerGoesOn, HasNoReply, MayServe, lacks_memory}
+use Rattle.copy_ends.specs.Turns.{IsUp, HasGrown, HasActed, HasAdded, HasTurned, heard_if, TakesNothing, IsIdle, IsAtRest, IsSendable}
+use Rattle.copy_ends.specs.Ends.{RepliesFollow, ServerStands, IsServing, ServerGoesOn, HasNoReply, MayServe, lacks_memory}
 use Rattle.copy_ends.proofs.Sizes.{reply_sendable}
 use Rattle.copy_ends.proofs.Turning.{rests}
 
+-- ---- each reply follows its request
+
+accepted_more : (r : Result Request FileFault) (q : Requests) → length (with_judged r q).accepted ≤ length q.accepted + 1
+accepted_more (Ok r) q = let long : length (q.accepted ++ r ∷ []) ≡ length q.accepted + 1 = length-append q.accepted (r ∷ []) in omega arith
+accepted_more (Err fault) q = omega arith
+
+accepted_few : (kind : CopyKind) (past : List ServerEvent) → length (requests kind past).accepted ≤ length (messages_asked past)
+accepted_few kind [] = omega arith
+accepted_few kind (Asked m ∷ past) =
+    let long : length (messages_asked past ++ m ∷ []) ≡ length (messages_asked past) + 1 = length-append (messages_asked past) (m ∷ []) in
+    let more = accepted_more (judgement kind (requests kind past) (replies past) m) (requests kind past) in
+    let few = accepted_few kind past in
+    omega arith
+accepted_few kind (Filled bytes ∷ past) = accepted_few kind past
+accepted_few kind (Gave work ∷ past) = accepted_few kind past
+accepted_few kind (Completed c ∷ past) = accepted_few kind past
+accepted_few kind (Replied r ∷ past) = accepted_few kind past
+accepted_few kind (Stored bytes ∷ past) = accepted_few kind past
+
+-- the machine replies to accepted requests alone
+said_few : (kind : CopyKind) (past : List ServerEvent) (m : FileServer) (limits : Limits) (events : List Event) → CameBy kind past m
+    → messages_submitted events ≡ map reply_bytes (replies past) → messages_asked past ≡ messages_delivered side.Server limits events
+    → length (messages_submitted events) ≤ length (messages_delivered side.Server limits events)
+said_few kind past m limits events came sent heard =
+    let said : length (messages_submitted events) ≡ length (replies past) = ap length sent ∙ length-map (replies past) reply_bytes in
+    let asked : length (messages_asked past) ≡ length (messages_delivered side.Server limits events) = ap length heard in
+    let few = accepted_few kind past in
+    let replied = came.in_turn.replied in
+    omega arith
+
+followed_by : (limits : Limits) (past events : List Event) → length (events ++ past) ≤ length past + 1 → RepliesFollow limits past
+    → length (messages_submitted (events ++ past)) ≤ length (messages_delivered side.Server limits (events ++ past)) → RepliesFollow limits (events ++ past)
+followed_by limits past [] few f said = f
+followed_by limits past (e ∷ []) few f said = (said, f)
+followed_by limits past (e ∷ d ∷ events) few f said = absurd (let long = length-append events past in let b : ⊥ = omega arith in b)
+
+followed : (limits later_limits : Limits) (past later : List Event) → HasGrown past later → later_limits ≡ limits → length later ≤ length past + 1 → RepliesFollow limits past
+    → length (messages_submitted later) ≤ length (messages_delivered side.Server later_limits later) → RepliesFollow later_limits later
+followed limits later_limits past later g same few f said =
+    subst (λ (l : Limits). length (messages_submitted later) ≤ length (messages_delivered side.Server l later) → RepliesFollow l later) (sym same)
+    (subst (λ (p : List Event). length p ≤ length past + 1 → length (messages_submitted p) ≤ length (messages_delivered side.Server limits p) → RepliesFollow limits p) (sym g.is)
+    (λ short enough. followed_by limits past g.events short f enough) few) said
+
+-- the server's end has added one event at most
+abbrev pub AddsFew : State → State → Type 0
+AddsFew old new = length new.server ≤ length old.server + 1
+
+pub one_few : (old new : State) → HasAdded 1 side.Server old new → AddsFew old new
+one_few old new h = let one : length new.server ≡ length old.server + 1 = h in omega arith
+
+pub same_few : (old new : State) → new ≡ old → AddsFew old new
+same_few old new h = let same : length new.server ≡ length old.server = ap (λ (s : State). length s.server) h in omega arith
+
 -- ---- what a turn leaves
 
-pub quiet : (kind : CopyKind) (past : List ServerEvent) (m : FileServer) (old new : State) → ServerStands kind past m old → HasTurned side.Server [] [] old new → ServerStands kind past m new
-quiet kind past m old new h t = record {
-  came = h.came;
-  sent = t.submitted ∙ append-nil (messages_submitted old.server) ∙ h.sent;
-  heard = h.heard ∙ sym (append-nil (messages_delivered side.Server old.server_limits old.server)) ∙ sym t.delivered;
+stands_after : (kind : CopyKind) (past later : List ServerEvent) (m n : FileServer) (old new : State) → ServerStands kind past m old → HasActed side.Server old new → AddsFew old new
+    → CameBy kind later n → messages_submitted new.server ≡ map reply_bytes (replies later) → messages_asked later ≡ messages_delivered side.Server new.server_limits new.server
+    → ServerStands kind later n new
+stands_after kind past later m n old new h a few came sent heard = record {
+  came = came;
+  sent = sent;
+  heard = heard;
+  follows = followed old.server_limits new.server_limits old.server new.server a.own a.own_limits few h.follows
+      (said_few kind later n new.server_limits new.server came sent heard);
 }
+
+pub quiet : (kind : CopyKind) (past : List ServerEvent) (m : FileServer) (old new : State) → ServerStands kind past m old → HasTurned side.Server [] [] old new → AddsFew old new
+    → ServerStands kind past m new
+quiet kind past m old new h t few =
+    stands_after kind past past m m old new h t.acted few h.came
+    (t.submitted ∙ append-nil (messages_submitted old.server) ∙ h.sent)
+    (h.heard ∙ sym (append-nil (messages_delivered side.Server old.server_limits old.server)) ∙ sym t.delivered)
 
 asked : (kind : CopyKind) (past : List ServerEvent) (m n : FileServer) (message : List ℕ) (old new : State) → ServerStands kind past m old → HasTurned side.Server [] (message ∷ []) old new
-    → CameBy kind (Asked message ∷ past) n → ServerStands kind (Asked message ∷ past) n new
-asked kind past m n message old new h t came = record {
-  came = came;
-  sent = t.submitted ∙ append-nil (messages_submitted old.server) ∙ h.sent;
-  heard = ap (λ (ms : List (List ℕ)). ms ++ message ∷ []) h.heard ∙ sym t.delivered;
-}
+    → AddsFew old new → CameBy kind (Asked message ∷ past) n → ServerStands kind (Asked message ∷ past) n new
+asked kind past m n message old new h t few came =
+    stands_after kind past (Asked message ∷ past) m n old new h t.acted few came
+    (t.submitted ∙ append-nil (messages_submitted old.server) ∙ h.sent)
+    (ap (λ (ms : List (List ℕ)). ms ++ message ∷ []) h.heard ∙ sym t.delivered)
 
 replied : (kind : CopyKind) (past : List ServerEvent) (m n : FileServer) (r : Reply) (old new : State) → ServerStands kind past m old → HasTurned side.Server (reply_bytes r ∷ []) [] old new
-    → CameBy kind (Replied r ∷ past) n → ServerStands kind (Replied r ∷ past) n new
-replied kind past m n r old new h t came = record {
-  came = came;
-  sent = t.submitted ∙ ap (λ (ms : List (List ℕ)). ms ++ reply_bytes r ∷ []) h.sent ∙ sym (map-append reply_bytes (replies past) (r ∷ []));
-  heard = h.heard ∙ sym (append-nil (messages_delivered side.Server old.server_limits old.server)) ∙ sym t.delivered;
-}
+    → AddsFew old new → CameBy kind (Replied r ∷ past) n → ServerStands kind (Replied r ∷ past) n new
+replied kind past m n r old new h t few came =
+    stands_after kind past (Replied r ∷ past) m n old new h t.acted few came
+    (t.submitted ∙ ap (λ (ms : List (List ℕ)). ms ++ reply_bytes r ∷ []) h.sent ∙ sym (map-append reply_bytes (replies past) (r ∷ [])))
+    (h.heard ∙ sym (append-nil (messages_delivered side.Server old.server_limits old.server)) ∙ sym t.delivered)
 
 -- ---- going on
 
@@ -81,9 +147,9 @@ go_on kind past before after m n v w g h = record {
 -- ---- a frame is taken
 
 pub heard_none : (kind : CopyKind) (past : List ServerEvent) (m : FileServer) (old new : State) (newest : Option (List ℕ)) → ServerStands kind past m old → None ≡ newest
-    → HasTurned side.Server [] (heard_if true newest) old new → ServerGoesOn kind past false m new
-heard_none kind past m old new newest h none t =
-    still kind past m new (quiet kind past m old new h (subst (λ (o : Option (List ℕ)). HasTurned side.Server [] (option_to_list o) old new) (sym none) t))
+    → HasTurned side.Server [] (heard_if true newest) old new → HasAdded 1 side.Server old new → ServerGoesOn kind past false m new
+heard_none kind past m old new newest h none t one =
+    still kind past m new (quiet kind past m old new h (subst (λ (o : Option (List ℕ)). HasTurned side.Server [] (option_to_list o) old new) (sym none) t) (one_few old new one))
 
 taken_by : (r : Result Unit FileFault) (message : List ℕ) (past : List ServerEvent) → lacks_memory r ≡ false → after_request r message past ≡ Asked message ∷ past
 taken_by (Ok u) message past e = refl
@@ -97,11 +163,11 @@ taken_by (Err faults.Order) message past e = refl
 taken_by (Err faults.NoMemory) message past e = absurd (let b : ⊥ = cc in b)
 
 pub heard_one : (kind : CopyKind) (past : List ServerEvent) (m n : FileServer) (r : Result Unit FileFault) (message : List ℕ) (old new : State) (newest : Option (List ℕ))
-    → ServerStands kind past m old → Some message ≡ newest → HasTurned side.Server [] (heard_if true newest) old new → lacks_memory r ≡ false → CameBy kind (after_request r message past) n
-    → ServerGoesOn kind past false n new
-heard_one kind past m n r message old new newest h some t taken came =
+    → ServerStands kind past m old → Some message ≡ newest → HasTurned side.Server [] (heard_if true newest) old new → HasAdded 1 side.Server old new → lacks_memory r ≡ false
+    → CameBy kind (after_request r message past) n → ServerGoesOn kind past false n new
+heard_one kind past m n r message old new newest h some t one taken came =
     one_more kind past (Asked message) n new tt
-    (asked kind past m n message old new h (subst (λ (o : Option (List ℕ)). HasTurned side.Server [] (option_to_list o) old new) (sym some) t)
+    (asked kind past m n message old new h (subst (λ (o : Option (List ℕ)). HasTurned side.Server [] (option_to_list o) old new) (sym some) t) (one_few old new one)
     (subst (λ (p : List ServerEvent). CameBy kind p n) (taken_by r message past taken) came))
 
 -- ---- a reply is given
@@ -126,11 +192,11 @@ fits kind past m message came e =
 
 pub said_one : (kind : CopyKind) (past : List ServerEvent) (m n : FileServer) (message : List ℕ) (old new : State) → ServerStands kind past m old
     → Some message ≡ option_map reply_bytes (next_reply kind past) → CameBy kind (after_replying (next_reply kind past) past) n → HasTurned side.Server (message ∷ []) [] old new
-    → ServerGoesOn kind past false n new
-said_one kind past m n message old new h e came t =
+    → HasAdded 1 side.Server old new → ServerGoesOn kind past false n new
+said_one kind past m n message old new h e came t one =
     let d = is_due kind past message e in
     one_more kind past (Replied d.reply) n new tt
-    (replied kind past m n d.reply old new h (subst (λ (x : List ℕ). HasTurned side.Server (x ∷ []) [] old new) d.bytes t)
+    (replied kind past m n d.reply old new h (subst (λ (x : List ℕ). HasTurned side.Server (x ∷ []) [] old new) d.bytes t) (one_few old new one)
     (subst (λ (o : Option Reply). CameBy kind (after_replying o past) n) d.due came))
 
 none_due : (o : Option Reply) → None ≡ option_map reply_bytes o → o ≡ None
@@ -144,24 +210,24 @@ says_none kind past m n old h e came =
     record {
       due = none;
       same = refl;
-      stands = record { came = subst (λ (o : Option Reply). CameBy kind (after_replying o past) n) none came; sent = h.sent; heard = h.heard };
+      stands = record { came = subst (λ (o : Option Reply). CameBy kind (after_replying o past) n) none came; sent = h.sent; heard = h.heard; follows = h.follows };
     }
 
 -- ---- a whole turn
 
 -- a turn in which nothing was done leaves nothing to do
 pub served : (kind : CopyKind) (past : List ServerEvent) (m n k : FileServer) (old v w x : State) (r : Result Bool NoMemory) → ServerStands kind past m old
-    → HasTurned side.Server [] [] old v → IsIdle side.Server v
+    → HasTurned side.Server [] [] old v → v ≡ old → IsIdle side.Server v
     → (ServerStands kind past m v → ServerGoesOn kind past false n w) → TakesNothing side.Server v w
     → ((later : List ServerEvent) → ServerStands kind later n w → OnOk r (ServerGoesOn kind later false k x))
     → ((later : List ServerEvent) → ServerStands kind later n w → IfOk r (λ sent. sent ≡ false → HasNoReply kind later k w x))
     → IfOk r (λ did. ServerGoesOn kind past (not did) k x)
-served kind past m n k old v w x (Err fault) h t idle taken none said due = tt
-served kind past m n k old v w x (Ok true) h t idle taken none said due =
-    let g = taken (quiet kind past m old v h t) in
+served kind past m n k old v w x (Err fault) h t same idle taken none said due = tt
+served kind past m n k old v w x (Ok true) h t same idle taken none said due =
+    let g = taken (quiet kind past m old v h t (same_few old v same)) in
     go_on kind past false false n k w x g (said g.later g.stands)
-served kind past m n k old v w x (Ok false) h t idle taken none said due =
-    let g = taken (quiet kind past m old v h t) in
+served kind past m n k old v w x (Ok false) h t same idle taken none said due =
+    let g = taken (quiet kind past m old v h t (same_few old v same)) in
     let q = due g.later g.stands refl in
     record {
       later = g.later;

@@ -1,6 +1,8 @@
 -- How the machines of a copy and the ends of its connection stand to one another, and what a round of an end does.
 use Rattle.std.specs.Prelude.{◌≡◌, ℕ, ◌+◌, ◌<◌, ◌≤◌, Bool, true, false, None, Result, Err, List, [], ◌∷◌, ◌++◌, length, map}
 use Rattle.smbd_base.specs.declared.end_id.EndId.TheVariants as side
+use Rattle.smbd_base.specs.declared.event.Event.{Event}
+use Rattle.smbd_base.specs.Limits.{Limits}
 use Rattle.smbd_base.specs.Delivery.{messages_delivered}
 use Rattle.smbd_base.specs.History.{messages_submitted}
 use Rattle.world_core.specs.Run.{State}
@@ -78,10 +80,18 @@ pub record HasNoRequest (kind : CopyKind) (channel : Channel) (pages : ℕ) (pas
 
 -- ---- the server
 
+-- each reply follows its request: at every moment of the server's past, no more replies were submitted than requests delivered
+abbrev pub RepliesFollow : Limits → List Event → Type 0
+RepliesFollow limits [] = Unit {0}
+RepliesFollow limits (e ∷ past) = (length (messages_submitted (e ∷ past)) ≤ length (messages_delivered side.Server limits (e ∷ past))) × RepliesFollow limits past
+
+-- what the server's machine replied is what its end submitted, each reply after its request, and what the end delivered is what the
+-- machine was handed
 pub record ServerStands (kind : CopyKind) (past : List ServerEvent) (m : FileServer) (world : State) : Type 0 where
   pub came : CameBy kind past m
   pub sent : messages_submitted world.server ≡ map reply_bytes (replies past)
   pub heard : messages_asked past ≡ messages_delivered side.Server world.server_limits world.server
+  pub follows : RepliesFollow world.server_limits world.server
 
 -- requests that were handed in, and replies that were given, alone
 abbrev pub IsServing : List ServerEvent → Type 0

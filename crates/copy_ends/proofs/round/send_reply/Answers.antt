@@ -10,4 +10,4 @@ submit-requires-clause-fits c =
 pub returns-clause-goes_on : goal.returns-clause-goes_on
 returns-clause-goes_on c = λ kind past h.
     said_one kind past c.args.server.now c.next_message.new.self c.in-Some.message c.args.world.now c.submit.new.world h
-    (sym c.in-Some.is ∙ c.in_ok-message.ensures.due kind past h.came) (c.in_ok-message.ensures.after kind past h.came) c.in_ok-submit.ensures.turned
+    (sym c.in-Some.is ∙ c.in_ok-message.ensures.due kind past h.came) (c.in_ok-message.ensures.after kind past h.came) c.in_ok-submit.ensures.turned c.in_ok-submit.ensures.one
