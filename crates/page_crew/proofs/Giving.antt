@@ -11,7 +11,7 @@ use Rattle.copy_laws.specs.Coupled.{AreCoupled}
 use Rattle.copy_laws.specs.Steps.{client_after, server_after, with_job}
 use Rattle.copy_laws.proofs.StepsClients.{client-gives}
 use Rattle.copy_laws.proofs.StepsServers.{server-gives}
-use Rattle.page_crew.specs.Crews.{CrewState, HasGiven, IsGivenAt, lines_of}
+use Rattle.page_crew.specs.Crews.{CrewState, HasGiven, IsGivenAt, lines_of, dones_of}
 use Rattle.page_crew.proofs.CrewOf.{coupled-of}
 
 -- the place of the worker of this number
@@ -55,9 +55,16 @@ map-kept f (y ∷ xs) zero x v e h =
     ap (λ z. z ∷ map f xs) (h ∙ ap f (sym same))
 map-kept f (y ∷ xs) (suc i) x v e h = ap (λ zs. f y ∷ zs) (map-kept f xs i x v e h)
 
--- without memory the workers stay as they were
+-- what no job changes; without memory the workers stay as they were
+given-kept : {A T E : Type 0} (f : WorkerState → A) (r : Result T E) (place : ℕ) (j : Job) (ws vs : List WorkerState) → ((w : WorkerState) → f (with_job j w) ≡ f w)
+    → OnOk r (IsGivenAt place j ws vs) → OnErr r (vs ≡ ws) → map f vs ≡ map f ws
+given-kept f (Ok x) place j ws vs stays g same = ap (λ (us : List WorkerState). map f us) g.given ∙ map-kept f ws place g.worker (with_job j g.worker) g.at (stays g.worker)
+given-kept f (Err e) place j ws vs stays g same = ap (λ (us : List WorkerState). map f us) same
+
 pub given-lines : {T E : Type 0} (r : Result T E) (place : ℕ) (j : Job) (ws vs : List WorkerState) → OnOk r (IsGivenAt place j ws vs) → OnErr r (vs ≡ ws)
     → lines_of vs ≡ lines_of ws
-given-lines (Ok x) place j ws vs g same =
-    ap (λ (us : List WorkerState). lines_of us) g.given ∙ map-kept (λ (w : WorkerState). w.lines) ws place g.worker (with_job j g.worker) g.at refl
-given-lines (Err e) place j ws vs g same = ap (λ (us : List WorkerState). lines_of us) same
+given-lines r place j ws vs g same = given-kept (λ (w : WorkerState). w.lines) r place j ws vs (λ w. refl) g same
+
+pub given-dones : {T E : Type 0} (r : Result T E) (place : ℕ) (j : Job) (ws vs : List WorkerState) → OnOk r (IsGivenAt place j ws vs) → OnErr r (vs ≡ ws)
+    → dones_of vs ≡ dones_of ws
+given-dones r place j ws vs g same = given-kept (λ (w : WorkerState). w.done) r place j ws vs (λ w. refl) g same

@@ -60,6 +60,10 @@ opened_crew workers pages = record {
 abbrev pub lines_of : List WorkerState → List (List LogLine)
 lines_of ws = map (λ (w : WorkerState). w.lines) ws
 
+-- the completions of each worker that weren't taken
+abbrev pub dones_of : List WorkerState → List (List Completion)
+dones_of ws = map (λ (w : WorkerState). w.done) ws
+
 -- the worker has told its lines
 abbrev pub told : WorkerState → WorkerState
 told w = record w { lines = [] }

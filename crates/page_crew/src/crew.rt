@@ -3,7 +3,7 @@
 ghost use Rattle.std.specs.Prelude.{◌≡◌, ℕ, ◌+◌, ◌<◌, ◌≤◌, List, length, map, slice_get, Some, IfOk, OnOk, OnErr, MatchOption};
 ghost use Rattle.copy_laws.specs.Coupled.{Pasts};
 ghost use Rattle.copy_laws.specs.Steps.{opened_pasts};
-ghost use Rattle.page_crew.specs.Crews.{IsSized, IsCrewOf, workers_of, with_workers, opened_crew, lines_of, told, HasGiven, HasNone, HasTaken, AreAsMany, HaveTurned, GoesOn};
+ghost use Rattle.page_crew.specs.Crews.{IsSized, IsCrewOf, workers_of, with_workers, opened_crew, lines_of, dones_of, told, HasGiven, HasNone, HasTaken, AreAsMany, HaveTurned, GoesOn};
 
 use crate::workers::{clear_all, give_to, lines_at, open_workers, run_all, take_from};
 use event_log::LogLine;
@@ -86,6 +86,7 @@ impl Crew {
         ensures same { OnErr result (self.new ≡ self.old) }
         ensures side { self.new ≡ with_workers end (workers_of end self.new) self.old }
         ensures lines { lines_of (workers_of end self.new) ≡ lines_of (workers_of end self.old) }
+        ensures done { dones_of (workers_of end self.new) ≡ dones_of (workers_of end self.old) }
     {
         let worker = worker_for(&job.work, self.count());
         let place = usize::from(worker - 1);
