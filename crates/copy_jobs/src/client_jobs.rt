@@ -5,7 +5,7 @@ ghost use Rattle.smbd_base.specs.declared.end_id.EndId.TheVariants as side;
 ghost use Rattle.file_messages.specs.declared.kind.Channel.{Channel};
 ghost use Rattle.file_messages.specs.declared.kind.CopyKind.{CopyKind};
 ghost use Rattle.copy_laws.specs.Coupled.{Pasts};
-ghost use Rattle.page_crew.specs.Crews.{HasNone, workers_of};
+ghost use Rattle.page_crew.specs.Crews.{HasNone, workers_of, dones_of};
 ghost use Rattle.copy_jobs.specs.Jobs.{ClientWith, MayWorkForClient, ClientHanded, ClientGiven, IsSameBut};
 
 use copy_ends::ClientMachine;
@@ -31,6 +31,7 @@ pub fn give_for_client(crew: &mut Crew, client: &mut ClientMachine) -> Result<()
     ensures given { (kind : CopyKind) (channel : Channel) (pages : ℕ) (p : Pasts) → ClientWith kind channel pages p client.old crew.old
         → OnOk result (ClientGiven kind channel pages p client.new crew.new) }
     ensures same { OnOk result (IsSameBut side.Client crew.old crew.new) }
+    ensures untaken { OnOk result (dones_of (workers_of side.Client crew.new) ≡ dones_of (workers_of side.Client crew.old)) }
 {
     while let Some(job) = client.next_job() {
         crew.give(EndId::Client, job)?;

@@ -4,7 +4,7 @@ ghost use Rattle.std.specs.Prelude.{◌≡◌, OnOk};
 ghost use Rattle.smbd_base.specs.declared.end_id.EndId.TheVariants as side;
 ghost use Rattle.file_messages.specs.declared.kind.CopyKind.{CopyKind};
 ghost use Rattle.copy_laws.specs.Coupled.{Pasts};
-ghost use Rattle.page_crew.specs.Crews.{HasNone, workers_of};
+ghost use Rattle.page_crew.specs.Crews.{HasNone, workers_of, dones_of};
 ghost use Rattle.copy_jobs.specs.Jobs.{ServerWith, MayWorkForServer, ServerHanded, ServerGiven, IsSameBut};
 
 use file_server::FileServer;
@@ -28,6 +28,7 @@ pub fn give_for_server(crew: &mut Crew, server: &mut FileServer) -> Result<(), N
     requires { MayWorkForServer server.old crew.old }
     ensures given { (kind : CopyKind) (p : Pasts) → ServerWith kind p server.old crew.old → OnOk result (ServerGiven kind p server.new crew.new) }
     ensures same { OnOk result (IsSameBut side.Server crew.old crew.new) }
+    ensures untaken { OnOk result (dones_of (workers_of side.Server crew.new) ≡ dones_of (workers_of side.Server crew.old)) }
 {
     while let Some(job) = server.next_job() {
         crew.give(EndId::Server, job)?;

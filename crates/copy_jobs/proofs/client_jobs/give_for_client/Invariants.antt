@@ -1,4 +1,6 @@
+use Rattle.std.proofs.Common.{◌≡◌}
 use Rattle.smbd_base.specs.declared.end_id.EndId.TheVariants as side
+use Rattle.page_crew.specs.Crews.{workers_of, dones_of}
 use Rattle.copy_jobs.specs.Jobs.{IsSameBut}
 use Rattle.copy_jobs.proofs.JobsLeft.{jobs_left}
 use Rattle.copy_jobs.proofs.Giving.{ClientGivesOn}
@@ -8,6 +10,7 @@ abbrev pub invariant-loop-job : goal.invariant-loop-job
 invariant-loop-job l = record {
   given : ClientGivesOn l.initial.client l.initial.crew l.client l.crew;
   same : IsSameBut side.Client l.initial.crew l.crew;
+  untaken : dones_of (workers_of side.Client l.crew) ≡ dones_of (workers_of side.Client l.initial.crew);
 }
 
 abbrev pub decreases-loop-job : goal.decreases-loop-job
