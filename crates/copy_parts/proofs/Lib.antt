@@ -1,0 +1,9 @@
+pub mod Quiet
+pub mod UnderWay
+pub mod Manned
+pub mod Opening
+pub mod JobsLeave
+pub mod Working
+pub mod Taking
+pub mod Coming
+pub mod Running
