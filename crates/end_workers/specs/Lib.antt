@@ -1,0 +1,5 @@
+pub mod Sizes
+pub mod Promise
+pub mod News
+pub mod Progress
+pub mod Barriers
