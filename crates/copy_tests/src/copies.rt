@@ -6,6 +6,7 @@ use smbd_cli::{Word, run};
 use smbd_outside::{MemorySink, MemorySource, Status};
 use std::alloc::Global;
 use std::process::Abort;
+use std::sync::Wait;
 
 mod sim;
 
@@ -14,53 +15,94 @@ const MEMORY: &str = "memory for a test";
 
 const PUT: [&str; 3] = ["put", "--channel", "none"];
 
+/// The words of a copy of each kind, without registered pages and over them.
+const WAYS: &[&[&str]] = &[
+    &PUT,
+    &["put"],
+    &["get", "--channel", "none"],
+    &["get", "--workers", "2"],
+];
+
 /// What the log has once both ends are open.
 const OPENING: &[u8] = b"C post 255\nS post 255\n";
 
-/// The log of a put of `abc`.
+/// The log of a put of `abc` without registered pages.
 const LOG_OF_ABC: &[u8] = b"C post 255
 S post 255
 C emit 000100010000ff00540500000020000000001000
-C take 1 32
-C post 1
 C submit 27
-C emit ff00ff000000000000000000180000001b00000000000000010000000100000000000000000000000300000000000000616263
-C take 2 36
-C post 1
-C submit 24
-C emit ff0001000000000000000000180000001800000000000000030000000200000003000000000000000000000000000000
-C take 3 36
-C post 1
 S take 1 20
 S post 1
 S emit 0001000100010000ff00ff000000000000001000540500000020000000001000
+C take 1 32
+C post 1
+C emit ff00ff000000000000000000180000001b00000000000000010000000100000000000000000000000300000000000000616263
 S take 2 51
 S post 1
 S submit 12
 S emit ff0001000000000000000000180000000c00000000000000018000000100000003000000
+C take 2 36
+C post 1
+C submit 24
+C emit ff0001000000000000000000180000001800000000000000030000000200000003000000000000000000000000000000
 S take 3 48
 S post 1
 S submit 12
 S emit ff0001000000000000000000180000000c00000000000000038000000200000000000000
+C take 3 36
+C post 1
 ";
 
-/// The log of a put of nothing.
+/// The log of a put of nothing, with registered pages or without.
 const LOG_OF_NOTHING: &[u8] = b"C post 255
 S post 255
 C emit 000100010000ff00540500000020000000001000
-C take 1 32
-C post 1
 C submit 24
-C emit ff00ff000000000000000000180000001800000000000000030000000100000000000000000000000000000000000000
-C take 2 36
-C post 1
 S take 1 20
 S post 1
 S emit 0001000100010000ff00ff000000000000001000540500000020000000001000
+C take 1 32
+C post 1
+C emit ff00ff000000000000000000180000001800000000000000030000000100000000000000000000000000000000000000
 S take 2 48
 S post 1
 S submit 12
 S emit ff0001000000000000000000180000000c00000000000000038000000100000000000000
+C take 2 36
+C post 1
+";
+
+/// The log of a put of `abc` over registered pages, by 4 workers at each end.
+const LOG_OVER_PAGES: &[u8] = b"C post 255
+S post 255
+C emit 000100010000ff00540500000020000000001000
+S take 1 20
+S post 1
+S emit 0001000100010000ff00ff000000000000001000540500000020000000001000
+C1 load 256 fetch 3
+C take 1 32
+C post 1
+C emit ff00ff0000000000000000000000000000000000
+C submit 40
+C emit ff000000000000000000000018000000280000000000000001000100010000000000000000000000030000000100000000000000000000000001000003000000
+S take 2 20
+S post 1
+S take 3 64
+S post 1
+S1 fetch 256 0 3
+S submit 12
+S emit ff0002000000000000000000180000000c00000000000000018000000100000003000000
+C take 2 36
+C post 1
+C submit 24
+C emit ff0001000000000000000000180000001800000000000000030000000200000003000000000000000000000000000000
+S take 4 48
+S post 1
+S submit 12
+S emit ff0001000000000000000000180000000c00000000000000038000000200000000000000
+C take 3 36
+C post 1
+C1 unload 256
 ";
 
 /// How the outside of a copy behaves: the most bytes that the source gives and the sink takes at once, the calls at
@@ -118,7 +160,7 @@ fn source_of(
 }
 
 fn copied(
-    rt: &impl Abort,
+    rt: &(impl Abort + Wait),
     alloc: Global,
     texts: &[&str],
     bytes: &[u8],
@@ -130,13 +172,13 @@ fn copied(
     let mut sink = sink_of(rt, alloc, room, outside.most, fails);
     let (room, fails) = (outside.log_room, outside.log_fails);
     let mut log = sink_of(rt, alloc, room, outside.most, fails);
-    let status = run(alloc, &words, &mut source, &mut sink, &mut log);
+    let status = run(rt, alloc, &words, &mut source, &mut sink, &mut log);
     Ran { status, sink, log }
 }
 
 /// Runs the program: it ends so, and the sink and the log get this.
 fn check_run(
-    rt: &impl Abort,
+    rt: &(impl Abort + Wait),
     alloc: Global,
     texts: &[&str],
     bytes: &[u8],
@@ -152,76 +194,52 @@ fn check_run(
 }
 
 #[test]
-fn a_copy_gives_its_bytes_and_tells_its_faults(rt: HostRuntime) {
+fn a_copy_tells_what_it_did(rt: HostRuntime) {
     const BY_ONE: Outside<'static> = Outside { most: 1, ..FAIR };
-    const CASES: &[(&[u8], Outside<'static>, Status, &[u8], &[u8])] = &[
-        (b"", FAIR, Status::Done, b"", LOG_OF_NOTHING),
-        (b"abc", FAIR, Status::Done, b"abc", LOG_OF_ABC),
-        (b"abc", BY_ONE, Status::Done, b"abc", LOG_OF_ABC),
+    const CASES: &[(&[&str], &[u8], Outside<'static>, &[u8])] = &[
+        (&PUT, b"", FAIR, LOG_OF_NOTHING),
+        (&["put"], b"", FAIR, LOG_OF_NOTHING),
+        (&PUT, b"abc", FAIR, LOG_OF_ABC),
+        (&PUT, b"abc", BY_ONE, LOG_OF_ABC),
+        (&["put"], b"abc", FAIR, LOG_OVER_PAGES),
         (
+            &["put", "--channel", "v1", "--workers", "4"],
             b"abc",
-            Outside {
-                source_fails: &[1],
-                ..FAIR
-            },
-            Status::ReadFault,
-            b"",
-            OPENING,
-        ),
-        (
-            b"abc",
-            Outside {
-                source_fails: &[3],
-                ..BY_ONE
-            },
-            Status::ReadFault,
-            b"",
-            OPENING,
-        ),
-        (
-            b"abc",
-            Outside {
-                sink_fails: &[1],
-                ..FAIR
-            },
-            Status::WriteFault,
-            b"",
-            LOG_OF_ABC,
-        ),
-        (
-            b"abc",
-            Outside {
-                sink_room: 2,
-                ..FAIR
-            },
-            Status::WriteFault,
-            b"ab",
-            LOG_OF_ABC,
-        ),
-        (
-            b"abc",
-            Outside {
-                log_fails: &[1],
-                ..FAIR
-            },
-            Status::LogFault,
-            b"",
-            b"",
-        ),
-        (
-            b"abc",
-            Outside {
-                log_room: 30,
-                ..FAIR
-            },
-            Status::LogFault,
-            b"",
-            b"C post 255\nS post 255\nC emit 0",
+            FAIR,
+            LOG_OVER_PAGES,
         ),
     ];
-    for &(bytes, outside, status, sink, log) in CASES {
-        check_run(&rt, rt.alloc(), &PUT, bytes, outside, status, sink, log);
+    for &(texts, bytes, outside, log) in CASES {
+        check_run(
+            &rt,
+            rt.alloc(),
+            texts,
+            bytes,
+            outside,
+            Status::Done,
+            bytes,
+            log,
+        );
     }
+}
+
+/// A log that takes 30 bytes of its first lines.
+#[test]
+fn a_full_log_ends_a_copy(rt: HostRuntime) {
+    let full = Outside {
+        log_room: 30,
+        ..FAIR
+    };
+    check_run(
+        &rt,
+        rt.alloc(),
+        &PUT,
+        b"abc",
+        full,
+        Status::LogFault,
+        b"",
+        &LOG_OF_ABC[..30],
+    );
 }
 
 /// So many bytes, of which no two neighbours are equal.
@@ -250,145 +268,219 @@ fn lines_that_begin(log: &[u8], start: &[u8]) -> usize {
         .count()
 }
 
-/// The most requests that were unanswered at once: the client submits one, and takes a reply in a frame of 36 bytes.
-fn most_unanswered(log: &[u8]) -> usize {
-    let mut unanswered = 0usize;
-    let mut most = 0;
-    for line in log.split(|byte| *byte == b'\n') {
-        if line.starts_with(b"C submit ") {
-            unanswered = unanswered.saturating_add(1);
-        } else if line.starts_with(b"C take ") && line.ends_with(b" 36") {
-            unanswered = unanswered.saturating_sub(1);
-        }
-        most = most.max(unanswered);
-    }
-    most
+/// How many lines of a log are this one.
+fn lines_that_are(log: &[u8], text: &[u8]) -> usize {
+    log.split(|byte| *byte == b'\n')
+        .filter(|line| *line == text)
+        .count()
 }
 
 #[test]
-fn a_copy_carries_messages_of_many_pieces(rt: HostRuntime) {
-    // the bytes, the requests that it takes, and how many of them are unanswered at once
-    const CASES: &[(u32, usize, usize)] = &[
-        (1_316, 2, 1),
-        (1_317, 2, 1),
-        (65_536, 2, 1),
-        (65_537, 3, 2),
-        (100_000, 3, 2),
-        (262_144, 5, 4),
-        (262_145, 6, 4),
-        (600_000, 11, 4),
+fn a_copy_has_a_request_for_each_group(rt: HostRuntime) {
+    // the words, the bytes, the requests, and a line with how often it comes
+    const CASES: &[(&[&str], u32, usize, &[u8], usize)] = &[
+        (&PUT, 1_316, 2, b"C submit 1340", 1),
+        (&PUT, 65_536, 2, b"C submit 65560", 1),
+        (&PUT, 65_537, 3, b"C submit 25", 1),
+        (&PUT, 100_000, 3, b"C submit 34488", 1),
+        (&PUT, 600_000, 11, b"C submit 65560", 9),
+        (&["put"], 100_000, 3, b"C submit 168", 1),
+        (&["put"], 600_000, 11, b"C submit 280", 9),
+        (
+            &["put", "--workers", "8"],
+            65_536,
+            2,
+            b"S8 fetch 271 0 4096",
+            1,
+        ),
+        (
+            &["get", "--channel", "none"],
+            100_000,
+            3,
+            b"S submit 34476",
+            1,
+        ),
+        (&["get", "--channel", "none"], 65_536, 3, b"S submit 12", 2),
+        (&["get", "--workers", "4"], 196_608, 5, b"C submit 280", 4),
+        (&["get"], 196_608, 5, b"C submit 24", 1),
     ];
-    for &(length, requests, unanswered) in CASES {
+    for &(texts, length, requests, line, times) in CASES {
         let bytes = some_bytes(&rt, rt.alloc(), length);
-        let ran = copied(&rt, rt.alloc(), &PUT, &bytes, WIDE);
+        let ran = copied(&rt, rt.alloc(), texts, &bytes, WIDE);
         assert_eq!(rt; ran.status, Status::Done, "{length} bytes");
         assert!(rt; ran.sink.taken() == bytes.as_slice(), "{length} bytes");
         let log = ran.log.taken();
-        assert_eq!(rt;
-            lines_that_begin(log, b"C submit "),
-            requests,
-            "{length} bytes"
-        );
-        assert_eq!(rt;
-            lines_that_begin(log, b"S submit 12"),
-            requests,
-            "{length} bytes"
-        );
-        assert_eq!(rt; most_unanswered(log), unanswered, "{length} bytes");
+        let submitted = lines_that_begin(log, b"C submit ");
+        assert_eq!(rt; submitted, requests, "{length} bytes");
+        let replied = lines_that_begin(log, b"S submit ");
+        assert_eq!(rt; replied, requests, "{length} bytes");
+        let found = lines_that_are(log, line);
+        assert_eq!(rt; found, times, "{length} bytes");
     }
 }
 
-#[test]
-fn a_copy_of_100000_bytes_has_two_writes(rt: HostRuntime) {
-    let bytes = some_bytes(&rt, rt.alloc(), 100_000);
-    let ran = copied(&rt, rt.alloc(), &PUT, &bytes, WIDE);
+/// The most bytes are copied. One more is too many: the sink has whole groups, and the log whole lines.
+fn check_most(rt: &(impl Abort + Wait), alloc: Global, texts: &[&str]) {
+    let mut bytes = some_bytes(rt, alloc, 16_777_216);
+    let ran = copied(rt, alloc, texts, &bytes, WIDE);
     assert_eq!(rt; ran.status, Status::Done);
-    for line in [
-        b"C submit 65560".as_slice(),
-        b"C submit 34488",
-        b"C submit 24",
-    ] {
-        assert_eq!(rt; lines_that_begin(ran.log.taken(), line), 1);
+    assert!(rt; ran.sink.taken() == bytes.as_slice());
+    bytes.push(7).expect(rt, MEMORY);
+    let ran = copied(rt, alloc, texts, &bytes, WIDE);
+    assert_eq!(rt; ran.status, Status::TooLong);
+    assert!(rt; is_of_groups(&bytes, ran.sink.taken()));
+    assert!(rt; ran.log.taken().ends_with(b"\n"));
+}
+
+#[test]
+fn a_put_carries_16777216_bytes_and_not_one_more(rt: HostRuntime) {
+    check_most(&rt, rt.alloc(), &PUT);
+}
+
+#[test]
+fn a_put_over_pages_carries_16777216_bytes_and_not_one_more(rt: HostRuntime) {
+    check_most(&rt, rt.alloc(), &["put"]);
+}
+
+#[test]
+fn a_get_carries_16777216_bytes_and_not_one_more(rt: HostRuntime) {
+    check_most(&rt, rt.alloc(), &["get", "--channel", "none"]);
+}
+
+#[test]
+fn a_get_over_pages_carries_16777216_bytes_and_not_one_more(rt: HostRuntime) {
+    check_most(&rt, rt.alloc(), &["get"]);
+}
+
+/// Whether the sink has a front of these bytes, of whole groups.
+fn is_of_groups(bytes: &[u8], taken: &[u8]) -> bool {
+    bytes.starts_with(taken) && taken.len() % 65_536 == 0
+}
+
+/// Whether the log tells whole lines of those that a copy without a fault tells.
+fn is_of_lines(whole: &[u8], log: &[u8]) -> bool {
+    whole.starts_with(log) && log.ends_with(b"\n")
+}
+
+/// A source that fails at its first call to its sixth: the sink has a front of whole groups, and the log whole lines.
+#[test]
+fn a_source_that_fails_ends_a_copy(rt: HostRuntime) {
+    let bytes = some_bytes(&rt, rt.alloc(), 400_000);
+    for &texts in WAYS {
+        let whole = copied(&rt, rt.alloc(), texts, &bytes, WIDE);
+        for call in 1..=6u32 {
+            let faulty = Outside {
+                source_fails: &[call],
+                ..WIDE
+            };
+            let ran = copied(&rt, rt.alloc(), texts, &bytes, faulty);
+            assert_eq!(rt; ran.status, Status::ReadFault, "call {call}");
+            assert!(rt; is_of_groups(&bytes, ran.sink.taken()), "call {call}");
+            assert!(rt;
+                ran.sink.taken().len() < 65_536 * call as usize,
+                "call {call}"
+            );
+            assert!(rt;
+                is_of_lines(whole.log.taken(), ran.log.taken()),
+                "call {call}"
+            );
+        }
     }
 }
 
+/// A sink that fails at its first call to its sixth: it has what it took before, and the log whole lines.
 #[test]
-fn a_copy_carries_16777216_bytes_and_not_one_more(rt: HostRuntime) {
-    let mut bytes = some_bytes(&rt, rt.alloc(), 16_777_216);
-    let longest = (Status::Done, 16_777_216, 257, 257);
-    check_long(&rt, rt.alloc(), &bytes, WIDE, longest);
-    bytes.push(7).expect(&rt, MEMORY);
-    // each group before the byte too many is stored, and nothing more is submitted
-    let longer = (Status::TooLong, 16_777_216, 256, 256);
-    check_long(&rt, rt.alloc(), &bytes, WIDE, longer);
+fn a_sink_that_fails_ends_a_copy(rt: HostRuntime) {
+    let bytes = some_bytes(&rt, rt.alloc(), 400_000);
+    for &texts in WAYS {
+        let whole = copied(&rt, rt.alloc(), texts, &bytes, WIDE);
+        for call in 1..=6u32 {
+            let faulty = Outside {
+                sink_fails: &[call],
+                ..WIDE
+            };
+            let ran = copied(&rt, rt.alloc(), texts, &bytes, faulty);
+            assert_eq!(rt; ran.status, Status::WriteFault, "call {call}");
+            assert!(rt; is_of_groups(&bytes, ran.sink.taken()), "call {call}");
+            assert_eq!(rt;
+                ran.sink.taken().len(),
+                65_536 * (call as usize - 1),
+                "call {call}"
+            );
+            assert!(rt;
+                is_of_lines(whole.log.taken(), ran.log.taken()),
+                "call {call}"
+            );
+        }
+        let full = Outside {
+            sink_room: 100_000,
+            ..WIDE
+        };
+        let ran = copied(&rt, rt.alloc(), texts, &bytes, full);
+        assert_eq!(rt; ran.status, Status::WriteFault);
+        assert!(rt; bytes.starts_with(ran.sink.taken()));
+        assert_eq!(rt; ran.sink.taken().len(), 100_000);
+        assert!(rt; is_of_lines(whole.log.taken(), ran.log.taken()));
+    }
 }
 
-/// How a long copy ends, how many bytes the sink has, and how many requests and replies the log tells.
-type Long = (Status, usize, usize, usize);
-
-/// Copies so many bytes, of which the sink gets a front.
-fn check_long(rt: &impl Abort, alloc: Global, bytes: &[u8], outside: Outside<'_>, expected: Long) {
-    let ran = copied(rt, alloc, &PUT, bytes, outside);
-    assert!(rt; bytes.starts_with(ran.sink.taken()));
-    let log = ran.log.taken();
-    let requests = lines_that_begin(log, b"C submit ");
-    let replies = lines_that_begin(log, b"S submit ");
-    assert_eq!(rt;
-        (ran.status, ran.sink.taken().len(), requests, replies),
-        expected
-    );
+/// A log that fails at its first call to its sixth: it has what it took before, and the sink whole groups that were told.
+#[test]
+fn a_log_that_fails_ends_a_copy(rt: HostRuntime) {
+    let bytes = some_bytes(&rt, rt.alloc(), 400_000);
+    for &texts in WAYS {
+        let whole = copied(&rt, rt.alloc(), texts, &bytes, WIDE);
+        for call in 1..=6u32 {
+            let faulty = Outside {
+                log_fails: &[call],
+                ..WIDE
+            };
+            let ran = copied(&rt, rt.alloc(), texts, &bytes, faulty);
+            assert_eq!(rt; ran.status, Status::LogFault, "call {call}");
+            assert!(rt; is_of_groups(&bytes, ran.sink.taken()), "call {call}");
+            assert!(rt;
+                whole.log.taken().starts_with(ran.log.taken()),
+                "call {call}"
+            );
+        }
+    }
 }
 
+/// The outside of a copy of 200,000 bytes that takes and gives 65,536 at once, and fails once.
 #[test]
-fn a_long_copy_tells_its_faults(rt: HostRuntime) {
-    const CASES: &[(Outside<'static>, Long)] = &[
-        (WIDE, (Status::Done, 300_000, 6, 6)),
+fn a_fault_comes_where_it_was_asked_for(rt: HostRuntime) {
+    const CASES: &[(Outside<'static>, Status, usize)] = &[
         (
             Outside {
                 source_fails: &[2],
                 ..WIDE
             },
-            (Status::ReadFault, 0, 0, 0),
-        ),
-        (
-            Outside {
-                source_fails: &[5],
-                ..WIDE
-            },
-            (Status::ReadFault, 262_144, 4, 4),
+            Status::ReadFault,
+            0,
         ),
         (
             Outside {
                 sink_fails: &[2],
                 ..WIDE
             },
-            (Status::WriteFault, 65_536, 4, 4),
-        ),
-        (
-            Outside {
-                sink_room: 280_000,
-                ..WIDE
-            },
-            (Status::WriteFault, 280_000, 6, 6),
+            Status::WriteFault,
+            65_536,
         ),
         (
             Outside {
                 log_fails: &[1],
                 ..WIDE
             },
-            (Status::LogFault, 0, 0, 0),
-        ),
-        (
-            Outside {
-                log_room: 580_000,
-                ..WIDE
-            },
-            (Status::LogFault, 262_144, 5, 4),
+            Status::LogFault,
+            0,
         ),
     ];
-    let bytes = some_bytes(&rt, rt.alloc(), 300_000);
-    for &(outside, expected) in CASES {
-        check_long(&rt, rt.alloc(), &bytes, outside, expected);
+    let bytes = some_bytes(&rt, rt.alloc(), 200_000);
+    for &(outside, status, stored) in CASES {
+        let ran = copied(&rt, rt.alloc(), &["put"], &bytes, outside);
+        assert_eq!(rt; ran.status, status);
+        assert!(rt; bytes.starts_with(ran.sink.taken()));
+        assert_eq!(rt; ran.sink.taken().len(), stored);
     }
 }
 
@@ -401,6 +493,7 @@ fn other_words_are_refused_before_anything_is_read(rt: HostRuntime) {
     const CASES: &[&[&str]] = &[
         &[],
         &["show"],
+        &["copy"],
         &["sim", "--credits"],
         &["sim", "--credits", "2"],
         &["sim", "--credits", "256"],
@@ -413,12 +506,18 @@ fn other_words_are_refused_before_anything_is_read(rt: HostRuntime) {
         &["sim", "3", "--credits"],
         &["sim", "--send-size", "128"],
         &["sim", "sim"],
-        &["put"],
         &["put", "--channel"],
         &["put", "--channel", "some"],
-        &["get", "--channel", "none"],
+        &["put", "--channel", "V1"],
         &["put", "--chanel", "none"],
         &["put", "--channel", "none", "none"],
+        &["put", "--workers", "0"],
+        &["put", "--workers", "9"],
+        &["get", "--workers", "02"],
+        &["get", "--workers", "2", "--workers", "2"],
+        &["get", "--workers", "2", "--channel", "none"],
+        &["get", "--channel", "v1", "--workers", "9"],
+        &["get", "put"],
     ];
     for &texts in CASES {
         check_run(
@@ -438,18 +537,18 @@ fn other_words_are_refused_before_anything_is_read(rt: HostRuntime) {
 /// (`rt try --test --fail-alloc N`); those before the copy end the test.
 #[test]
 fn want_of_memory_ends_a_copy_with_fronts(rt: HostRuntime) {
-    let ran = copied(&rt, rt.alloc(), &PUT, b"abc", FAIR);
+    let ran = copied(&rt, rt.alloc(), &["put"], b"abc", FAIR);
     assert!(rt; is_whole(&ran) || is_front(&ran));
 }
 
 fn is_whole(ran: &Ran) -> bool {
     ran.status == Status::Done
         && ran.sink.taken() == b"abc".as_slice()
-        && ran.log.taken() == LOG_OF_ABC
+        && ran.log.taken() == LOG_OVER_PAGES
 }
 
 fn is_front(ran: &Ran) -> bool {
     ran.status == Status::NoMemory
-        && ran.sink.taken().is_empty()
-        && LOG_OF_ABC.starts_with(ran.log.taken())
+        && (ran.sink.taken().is_empty() || ran.sink.taken() == b"abc".as_slice())
+        && LOG_OVER_PAGES.starts_with(ran.log.taken())
 }

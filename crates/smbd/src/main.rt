@@ -11,6 +11,7 @@ use std::rt::Env;
 fn main(rt: HostRuntime) -> ExitCode {
     let status = match words(&rt) {
         Ok(words) => run(
+            &rt,
             rt.alloc(),
             &words,
             &mut ReadSource::over(rt.stdin()),

@@ -3,7 +3,7 @@ use Rattle.std.proofs.Common.{◌≡◌, ◌⊎◌, inl, inr, ℕ, List, refl, s
 use Rattle.smbd_outside.specs.declared.status.Status.{Status}
 use Rattle.smbd_outside.specs.declared.status.Status.TheVariants.{Done, Usage, ReadFault, WriteFault, LogFault, TooLong, Cut, BadInput, NoMemory}
 use Rattle.smbd_cli.specs.declared.options.Plain.{Plain}
-use Rattle.smbd_cli.specs.Promise.{Stream}
+use Rattle.end_workers.specs.Promise.{Stream}
 use Rattle.smbd_cli.specs.Plain.{KeepsPlainPromise, IsFairPlain, bad_line, status_by_line}
 use Rattle.smbd_cli.proofs.Completing.{read_most, read_all}
 

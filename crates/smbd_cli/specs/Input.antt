@@ -4,8 +4,8 @@ use Rattle.std.specs.Io.KnownBytes.{Consumes, IsAtEnd}
 use Rattle.smbd_outside.specs.declared.status.Status.{Status}
 use Rattle.smbd_outside.specs.declared.status.Status.TheVariants.{Done, Usage, ReadFault, WriteFault, LogFault, TooLong, Cut, BadInput, NoMemory}
 use Rattle.smbd_outside.specs.Causes.{Rose}
-use Rattle.smbd_cli.specs.Promise.{Stream}
-use Rattle.smbd_cli.specs.Sizes.{most_bytes}
+use Rattle.end_workers.specs.Promise.{Stream}
+use Rattle.end_workers.specs.Sizes.{most_bytes}
 
 -- these are all the bytes that the source had, and no more than may be read
 pub record IsInput (source : Stream) (bytes : List ℕ) : Type 0 where

@@ -1,14 +1,4 @@
-pub mod Carried
 pub mod Command
-pub mod Ends
+pub mod Copies
 pub mod Input
-pub mod LogText
 pub mod Plain
-pub mod Progress
-pub mod Promise
-pub mod Put
-pub mod PutRun
-pub mod Requests
-pub mod Settled
-pub mod Sizes
-pub mod Telling

@@ -12,8 +12,8 @@ use Rattle.run_log.specs.RunLines.{run_lines}
 use Rattle.smbd_cli.specs.declared.options.Plain.{Plain}
 use Rattle.smbd_cli.specs.declared.options.Plain.TheVariants.{Sim}
 use Rattle.smbd_cli.specs.Input.{IsInput, CutsInput}
-use Rattle.smbd_cli.specs.Promise.{Stream, IsSilent}
-use Rattle.smbd_cli.specs.Sizes.{most_bytes}
+use Rattle.end_workers.specs.Promise.{Stream, IsSilent}
+use Rattle.end_workers.specs.Sizes.{most_bytes}
 
 -- the number of the first line of an input that is not understood, where there is one
 abbrev pub bad_line : Plain → List ℕ → Option ℕ

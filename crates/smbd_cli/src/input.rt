@@ -2,7 +2,7 @@
 
 ghost use Rattle.std.specs.Prelude.{IfOk, IfErr};
 ghost use Rattle.smbd_cli.specs.Input.{IsInput, StopsInput};
-ghost use Rattle.smbd_cli.specs.Promise.{stream_of};
+ghost use Rattle.end_workers.specs.Promise.{stream_of};
 
 use smbd_outside::{Failed, Filled, Source, Status, fill};
 use std::alloc::Global;

@@ -2,19 +2,16 @@
 #![tactic(auto)]
 
 mod copy;
-mod exchange;
 mod input;
 mod options;
 mod plain;
 mod program;
-mod put;
-mod requests;
-mod telling;
 mod words;
 
 pub use copy::run_copy;
+pub use end_workers::CopyOptions;
 pub use file_messages::{Channel, CopyKind};
-pub use options::{Command, CopyCommand, CopyOptions, Plain};
+pub use options::{Command, CopyCommand, Plain};
 pub use plain::run_plain;
 pub use program::run;
 pub use words::Word;

@@ -1,20 +1,7 @@
-//! What a copy is asked to do.
+//! What the program is asked to do.
 
-use file_messages::{Channel, CopyKind};
+use end_workers::CopyOptions;
 use smbd_base::EndLimits;
-
-/// How a copy is made.
-#[derive(Clone, Copy, Debug, PartialEq, Eq)]
-pub struct CopyOptions {
-    pub kind: CopyKind,
-    pub channel: Channel,
-    /// The workers of each end, 1 to 8.
-    pub workers: u8,
-    /// The limits of both ends.
-    pub limits: EndLimits,
-    /// Where it is told, the client cuts the link in the place of the frame of this number, from 1.
-    pub cut: Option<u32>,
-}
 
 /// A copy from the source to the sink, or one of a made input into memory.
 #[derive(Clone, Copy, Debug, PartialEq, Eq)]

@@ -5,8 +5,8 @@ ghost use Rattle.sim_script.specs.Scripts.{first_bad_line, script_of};
 ghost use Rattle.run_log.specs.RunLines.{run_lines};
 ghost use Rattle.world_core.specs.Run.{run_of};
 ghost use Rattle.smbd_cli.specs.Plain.{KeepsPlainPromise, IsFairPlain, bad_line, status_by_line, StopsScript};
-ghost use Rattle.smbd_cli.specs.Promise.{stream_of};
-ghost use Rattle.smbd_cli.specs.Sizes.{most_bytes};
+ghost use Rattle.end_workers.specs.Promise.{stream_of};
+ghost use Rattle.end_workers.specs.Sizes.{most_bytes};
 
 use crate::input::read_input;
 use crate::options::Plain;

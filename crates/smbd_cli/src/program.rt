@@ -5,8 +5,9 @@ ghost use Rattle.smbd_cli.specs.declared.options.CopyCommand.{CopyCommand as Cop
 ghost use Rattle.smbd_cli.specs.declared.options.Plain.{Plain as Waitless};
 ghost use Rattle.smbd_cli.specs.declared.options.Command.TheVariants as commands;
 ghost use Rattle.smbd_cli.specs.Command.{command_of};
+ghost use Rattle.smbd_cli.specs.Copies.{options_of};
 ghost use Rattle.smbd_cli.specs.Plain.{KeepsPlainPromise, IsFairPlain, bad_line, status_by_line};
-ghost use Rattle.smbd_cli.specs.Promise.{stream_of, KeepsPromise, IsFair, IsCopied};
+ghost use Rattle.end_workers.specs.Promise.{stream_of, KeepsPromise, IsFair, IsCopied};
 
 use crate::copy::run_copy;
 use crate::options::Command;
@@ -14,11 +15,13 @@ use crate::plain::run_plain;
 use crate::words::{Word, command_of};
 use smbd_outside::{Sink, Source, Status};
 use std::alloc::Global;
+use std::sync::Wait;
 
 /// Does all that the program does: reads the words, and then copies the source to the sink, which the log is told, or runs
 /// the script that the source has, whose log the sink gets. `Usage` comes exactly where the words name no command, and then
 /// nothing is read or written. Every other status is that of the copy or of the run, with its cause.
-pub fn run<S: Source, K: Sink, L: Sink>(
+pub fn run<R: Wait, S: Source, K: Sink, L: Sink>(
+    rt: &R,
     alloc: Global,
     words: &[Word],
     source: &mut S,
@@ -29,7 +32,7 @@ pub fn run<S: Source, K: Sink, L: Sink>(
     ensures untouched { result ≡ Status.Usage → (source.new ≡ source.old) × (sink.new ≡ sink.old) × (log.new ≡ log.old) }
 
     // the words of a copy
-    ensures promise { (command : Copying) → command_of words.now ≡ Some (commands.Copy command) → KeepsPromise result
+    ensures promise { (command : Copying) → command_of words.now ≡ Some (commands.Copy command) → KeepsPromise result (options_of command)
         (stream_of S.left S.faults source.old source.new) (stream_of K.written K.faults sink.old sink.new)
         (stream_of L.written L.faults log.old log.new) }
     ensures copied { (command : Copying) (bytes : List ℕ) → command_of words.now ≡ Some (commands.Copy command) →
@@ -48,7 +51,7 @@ pub fn run<S: Source, K: Sink, L: Sink>(
         (result ≡ status_by_line (bad_line command input)) ⊎ (result ≡ Status.NoMemory) }
 {
     match command_of(words) {
-        Some(Command::Copy(command)) => run_copy(alloc, &command, source, sink, log),
+        Some(Command::Copy(command)) => run_copy(rt, alloc, &command, source, sink, log),
         Some(Command::Plain(command)) => run_plain(alloc, &command, source, sink),
         None => Status::Usage,
     }

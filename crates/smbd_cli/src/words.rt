@@ -4,12 +4,16 @@ ghost use Rattle.std.specs.Prelude.{◌≡◌, nat_eq, IfOk};
 ghost use lib.Pointwise.{pointwise};
 ghost use Rattle.smbd_cli.specs.Command as spec;
 
-use crate::options::{Command, CopyCommand, CopyOptions, Plain};
+use crate::options::{Command, CopyCommand, Plain};
+use end_workers::CopyOptions;
 use event_log::number_in;
 use file_messages::{Channel, CopyKind};
 use smbd_base::{EndLimits, NoMemory};
 use std::alloc::Global;
 use std::marker::Model;
+
+/// The workers of each end where the words don't name them.
+const WORKERS: u8 = 4;
 
 /// A word of the command line, after the program's name. Contracts see the list of its bytes.
 #[derive(Debug, Drop)]
@@ -43,45 +47,98 @@ impl Word {
     }
 }
 
-/// The command that the words name, if they name one: `put --channel none`, `sim` or `sim --credits N`.
+/// The command that the words name, if they name one: `put` or `get`, then `--channel none` or `--channel v1` and then `--workers N` if
+/// they are wanted; `sim`, or `sim --credits N`.
 pub fn command_of(words: &[Word]) -> Option<Command>
     ensures { result ≡ spec.command_of words.now }
 {
     match words {
-        [command] if command.is(b"sim") => { Some(Command::Plain(Plain::Sim(EndLimits::usual()))) }
+        [command] => command_alone(command),
         [command, option, value] => command_of_three(command, option, value),
+        [command, channel, name, option, count] => {
+            let kind = kind_of(command)?;
+            if !channel.is(b"--channel") || !option.is(b"--workers") {
+                return None;
+            }
+            Some(copy_of(kind, channel_of(name)?, workers_of(count)?))
+        }
         _ => None,
     }
+}
+
+/// The command that this word alone names: a copy over registered pages by 4 workers at each end, or the run of a script.
+fn command_alone(command: &Word) -> Option<Command>
+    ensures { result ≡ spec.command_alone command.now }
+{
+    if command.is(b"sim") {
+        return Some(Command::Plain(Plain::Sim(EndLimits::usual())));
+    }
+    Some(copy_of(kind_of(command)?, Channel::V1, WORKERS))
 }
 
 /// The command that these words name: a command, an option and its value.
 fn command_of_three(command: &Word, option: &Word, value: &Word) -> Option<Command>
     ensures { result ≡ spec.command_of_three command.now option.now value.now }
 {
-    if command.is(b"put") {
-        if option.is(b"--channel") && value.is(b"none") {
-            return Some(Command::Copy(plain_put()));
+    if command.is(b"sim") {
+        if !option.is(b"--credits") {
+            return None;
         }
-        return None;
+        return Some(Command::Plain(Plain::Sim(limits_of_credits(value)?)));
     }
-    if command.is(b"sim") && option.is(b"--credits") {
-        let limits = limits_of_credits(value)?;
-        return Some(Command::Plain(Plain::Sim(limits)));
+    let kind = kind_of(command)?;
+    if option.is(b"--channel") {
+        return Some(copy_of(kind, channel_of(value)?, WORKERS));
+    }
+    if option.is(b"--workers") {
+        return Some(copy_of(kind, Channel::V1, workers_of(value)?));
     }
     None
 }
 
-/// A put without registered pages, of the usual limits.
-fn plain_put() -> CopyCommand
-    ensures { result ≡ spec.plain_put }
+/// A copy of the usual limits that isn't cut.
+fn copy_of(kind: CopyKind, channel: Channel, workers: u8) -> Command
+    ensures { result ≡ spec.copy_of kind channel workers }
 {
-    CopyCommand::Copy(CopyOptions {
-        kind: CopyKind::Put,
-        channel: Channel::None,
-        workers: 1,
+    Command::Copy(CopyCommand::Copy(CopyOptions {
+        kind,
+        channel,
+        workers,
         limits: EndLimits::usual(),
         cut: None,
-    })
+    }))
+}
+
+fn kind_of(word: &Word) -> Option<CopyKind>
+    ensures { result ≡ spec.kind_of word.now }
+{
+    if word.is(b"put") {
+        return Some(CopyKind::Put);
+    }
+    if word.is(b"get") {
+        return Some(CopyKind::Get);
+    }
+    None
+}
+
+fn channel_of(word: &Word) -> Option<Channel>
+    ensures { result ≡ spec.channel_of word.now }
+{
+    if word.is(b"none") {
+        return Some(Channel::None);
+    }
+    if word.is(b"v1") {
+        return Some(Channel::V1);
+    }
+    None
+}
+
+/// As many workers at each end as the word spells, from 1 to 8.
+fn workers_of(word: &Word) -> Option<u8>
+    ensures { result ≡ spec.workers_of word.now }
+{
+    let workers = number_in(word.text.as_bytes(), 1, 8)?;
+    Some(workers as u8)
 }
 
 /// The usual limits with as many receive credits as the word spells, from 3 to 255.

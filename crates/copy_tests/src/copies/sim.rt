@@ -4,6 +4,7 @@ use super::{FAIR, MEMORY, Outside, WIDE, check_run, copied, lines_that_begin};
 use smbd_outside::Status;
 use std::alloc::Global;
 use std::process::Abort;
+use std::sync::Wait;
 
 const SIM: [&str; 1] = ["sim"];
 
@@ -43,7 +44,7 @@ S post 255
 
 /// Runs a script: it ends so, the sink has this, and the log nothing.
 fn check_script(
-    rt: &impl Abort,
+    rt: &(impl Abort + Wait),
     alloc: Global,
     texts: &[&str],
     script: &[u8],
@@ -89,7 +90,7 @@ fn a_script_gives_its_log(rt: HostRuntime) {
 
 /// Adds the line of a frame with a payload that counts up from `first`.
 fn add_emit(
-    rt: &impl Abort,
+    rt: &(impl Abort + Wait),
     alloc: Global,
     text: &mut String,
     header: &str,
@@ -109,7 +110,7 @@ fn add_emit(
     add(rt, text, "\n");
 }
 
-fn add(rt: &impl Abort, text: &mut String, part: &str) {
+fn add(rt: &(impl Abort + Wait), text: &mut String, part: &str) {
     text.push_str(part).expect(rt, MEMORY);
 }
 
@@ -157,7 +158,7 @@ carry S
 }
 
 /// What the run of the message in three pieces gives.
-fn add_lines(rt: &impl Abort, alloc: Global, log: &mut String) {
+fn add_lines(rt: &(impl Abort + Wait), alloc: Global, log: &mut String) {
     add(
         rt,
         log,
@@ -194,7 +195,7 @@ C post 1
 }
 
 /// A script of two ends: the negotiation, a message of 268,000 bytes from the client, and so many turns of both.
-fn script_of_turns(rt: &impl Abort, alloc: Global, turns: usize) -> String {
+fn script_of_turns(rt: &(impl Abort + Wait), alloc: Global, turns: usize) -> String {
     let mut script = String::new(alloc);
     add(
         rt,
@@ -217,7 +218,7 @@ fn three_credits_carry_a_message_of_200_pieces(rt: HostRuntime) {
     }
 }
 
-fn carry_200_pieces(rt: &impl Abort, alloc: Global, script: &[u8]) {
+fn carry_200_pieces(rt: &(impl Abort + Wait), alloc: Global, script: &[u8]) {
     let ran = copied(rt, alloc, &["sim", "--credits", "3"], script, WIDE);
     assert_eq!(rt; ran.status, Status::Done);
     let log = ran.sink.taken();

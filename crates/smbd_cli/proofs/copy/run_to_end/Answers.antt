@@ -1,0 +1,51 @@
+use Rattle.std.proofs.Common.{refl}
+use Rattle.end_workers.specs.Promise.{stream_of}
+use Rattle.smbd_cli.proofs.copy.run_to_end.Goals as goal
+
+pub barrier-requires : goal.barrier-requires
+barrier-requires g c = c.loop.invariant.on
+
+pub round-requires : goal.round-requires
+round-requires g c =
+    (c.in-More.ensures c.args.copy.now.options (stream_of g.S.Source.left g.S.Source.faults c.args.source.now c.loop.source)
+    (stream_of g.K.Sink.written g.K.Sink.faults c.args.sink.now c.loop.sink) (stream_of g.L.Sink.written g.L.Sink.faults c.args.log.now c.loop.log)
+    refl refl refl refl refl refl c.loop.invariant.going).on
+
+pub returns-in-Done : goal.returns-in-Done
+returns-in-Done g c =
+    (c.in-Done.ensures c.args.copy.now.options (stream_of g.S.Source.left g.S.Source.faults c.args.source.now c.loop.source)
+    (stream_of g.K.Sink.written g.K.Sink.faults c.args.sink.now c.loop.sink) (stream_of g.L.Sink.written g.L.Sink.faults c.args.log.now c.loop.log)
+    refl refl refl refl refl refl c.loop.invariant.going).1
+
+pub returns-in-Stop : goal.returns-in-Stop
+returns-in-Stop g c =
+    c.in-Stop.ensures c.args.copy.now.options (stream_of g.S.Source.left g.S.Source.faults c.args.source.now c.loop.source)
+    (stream_of g.K.Sink.written g.K.Sink.faults c.args.sink.now c.loop.sink) (stream_of g.L.Sink.written g.L.Sink.faults c.args.log.now c.loop.log)
+    refl refl refl refl refl refl c.loop.invariant.going
+
+pub returns-in_default : goal.returns-in_default
+returns-in_default g c =
+    c.in_default.ensures.stops c.args.copy.now.options (stream_of g.S.Source.left g.S.Source.faults c.args.source.now c.barrier.new.source)
+    (stream_of g.K.Sink.written g.K.Sink.faults c.args.sink.now c.barrier.new.sink) (stream_of g.L.Sink.written g.L.Sink.faults c.args.log.now c.barrier.new.log)
+    (c.in-More.ensures c.args.copy.now.options (stream_of g.S.Source.left g.S.Source.faults c.args.source.now c.loop.source)
+    (stream_of g.K.Sink.written g.K.Sink.faults c.args.sink.now c.loop.sink) (stream_of g.L.Sink.written g.L.Sink.faults c.args.log.now c.loop.log)
+    refl refl refl refl refl refl c.loop.invariant.going).after.settled
+
+pub loop-preserved : goal.loop-preserved
+loop-preserved g c = record {
+  on = c.in-Ok.ensures.on;
+  going =
+      c.in-Ok.ensures.runs c.args.copy.now.options (stream_of g.S.Source.left g.S.Source.faults c.args.source.now c.barrier.new.source)
+      (stream_of g.K.Sink.written g.K.Sink.faults c.args.sink.now c.barrier.new.sink) (stream_of g.L.Sink.written g.L.Sink.faults c.args.log.now c.barrier.new.log)
+      (c.in-More.ensures c.args.copy.now.options (stream_of g.S.Source.left g.S.Source.faults c.args.source.now c.loop.source)
+      (stream_of g.K.Sink.written g.K.Sink.faults c.args.sink.now c.loop.sink) (stream_of g.L.Sink.written g.L.Sink.faults c.args.log.now c.loop.log)
+      refl refl refl refl refl refl c.loop.invariant.going).after.settled;
+}
+
+pub loop-init : goal.loop-init
+loop-init g c = record {
+  on = c.requires.on;
+  going = c.requires.opened (stream_of g.S.Source.left g.S.Source.faults c.args.source.now c.args.source.now)
+      (stream_of g.K.Sink.written g.K.Sink.faults c.args.sink.now c.args.sink.now) (stream_of g.L.Sink.written g.L.Sink.faults c.args.log.now c.args.log.now)
+      (refl, refl) (refl, refl) (refl, refl);
+}
