@@ -172,6 +172,7 @@ Ends (BadInput line) o source sink log c = ⊥
 
 -- The promise: the log tells histories of both ends and lists of their workers that fit together; each end delivers a front of what its
 -- peer submitted; each status has its cause; and with Done the sink got exactly what the source had.
+-- A text is the log of one such course alone: law `texts_fix_what_they_tell` of `copy_texts`.
 pub record KeepsPromise (status : Status) (o : CopyOptions) (source sink log : Stream) : Type 0 where
   pub course : Course
   pub moves : Moves source sink log course
