@@ -12,3 +12,4 @@ mod telling;
 pub use barrier::Barrier;
 pub use copy::{Copy, CopyReport};
 pub use copy_parts::CopyOptions;
+pub use page_workers::{Worker, run_workers};
