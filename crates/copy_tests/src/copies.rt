@@ -481,6 +481,8 @@ fn a_fault_comes_where_it_was_asked_for(rt: HostRuntime) {
         assert_eq!(rt; ran.status, status);
         assert!(rt; bytes.starts_with(ran.sink.taken()));
         assert_eq!(rt; ran.sink.taken().len(), stored);
+        // a log that fails at once has nothing
+        assert_eq!(rt; ran.log.taken().is_empty(), status == Status::LogFault);
     }
 }
 
