@@ -2,6 +2,8 @@
 use Rattle.std.specs.Prelude.{Bool, true, false, Option, Some, None}
 use Rattle.smbd_base.specs.declared.end_id.EndId.{EndId}
 use Rattle.smbd_base.specs.declared.event.Event.{Event}
+use Rattle.smbd_base.specs.declared.next.Next.{Next}
+use Rattle.smbd_base.specs.declared.next.Next.TheVariants as due
 use Rattle.world_core.specs.declared.choice.Choice.{Choice}
 use Rattle.world_core.specs.declared.choice.Choice.TheVariants as choices
 use Rattle.world_core.specs.declared.choice.Step.{Step}
@@ -25,3 +27,10 @@ cuts_link (choices.Cut end) = true
 abbrev pub answer_of : Option Event → Step
 answer_of None = Nothing
 answer_of (Some event) = Did
+
+-- a frame is what comes next
+abbrev pub is_emit : Next → Bool
+is_emit (due.Post n) = false
+is_emit (due.Emit frame) = true
+is_emit due.Close = false
+is_emit due.Idle = false

@@ -5,7 +5,7 @@ ghost use Rattle.smbd_base.specs.declared.event.Event.TheVariants as events;
 ghost use Rattle.smbd_base.specs.Delivery.{message_brought, messages_delivered};
 ghost use Rattle.smbd_base.specs.History as spec;
 ghost use Rattle.smbd_base.specs.Limits.{IsLawful};
-ghost use Rattle.world_core.specs.Choices.{answer_of};
+ghost use Rattle.world_core.specs.Choices.{answer_of, is_emit};
 ghost use Rattle.world_core.specs.Kept.{newest_in};
 ghost use Rattle.world_core.specs.Newest.{newest_brought};
 ghost use Rattle.world_core.specs.Linked.{Linked, submission, driven, carried, event_at, own_after, peer_after, still_undelivered, StandsFirst, TakesNext};
@@ -76,6 +76,17 @@ impl LinkedEnd {
     {
         self.end.cut();
         self.is_newest = false;
+    }
+
+    /// Whether a frame is what comes next. Nothing changes.
+    pub fn emits_next(&mut self) -> Result<bool, NoMemory>
+        ensures answer { IfOk result (λ emits. emits ≡ is_emit (spec.next_event self.old.side self.old.limits self.old.past)) }
+        ensures same { self.new ≡ self.old }
+    {
+        match self.end.next()? {
+            Next::Emit(_) => Ok(true),
+            Next::Post(_) | Next::Close | Next::Idle => Ok(false),
+        }
     }
 
     /// Submits a message, where the end does not refuse it, and keeps it for the peer to deliver.

@@ -4,7 +4,8 @@ ghost use Rattle.std.specs.Prelude.{◌≡◌, ◌∷◌, ◌||◌, Some, None, 
 ghost use Rattle.smbd_base.specs.declared.end_id.EndId.TheVariants as side;
 ghost use Rattle.smbd_base.specs.Delivery.{messages_delivered};
 ghost use Rattle.smbd_base.specs.Limits.{IsLawful};
-ghost use Rattle.world_core.specs.Choices.{answer_of, end_of};
+ghost use Rattle.smbd_base.specs.History.{is_cut, next_event};
+ghost use Rattle.world_core.specs.Choices.{answer_of, end_of, is_emit};
 ghost use Rattle.world_core.specs.Linked.{event_at, own_after, peer_after, TakesNext};
 ghost use Rattle.world_core.specs.Newest.{newest_brought};
 ghost use Rattle.world_core.specs.Run.{State, past_of, limits_of, event_chosen, step_of, opened_world, run_of, link_after, order_after, AreJointIn, AreDelivered};
@@ -82,6 +83,27 @@ impl World {
                 &mut self.order,
                 choice,
             ),
+        }
+    }
+
+    /// Whether an end is cut.
+    pub fn is_cut(&self, end: EndId) -> bool
+        ensures { result ≡ is_cut (past_of end self.now) }
+    {
+        match end {
+            EndId::Client => self.client.is_cut(),
+            EndId::Server => self.server.is_cut(),
+        }
+    }
+
+    /// Whether a frame is what comes next at an end. Nothing changes.
+    pub fn emits_next(&mut self, end: EndId) -> Result<bool, NoMemory>
+        ensures answer { IfOk result (λ emits. emits ≡ is_emit (next_event end (limits_of end self.old) (past_of end self.old))) }
+        ensures same { self.new ≡ self.old }
+    {
+        match end {
+            EndId::Client => self.client.emits_next(),
+            EndId::Server => self.server.emits_next(),
         }
     }
 
