@@ -4,3 +4,4 @@ pub mod Sizes
 pub mod Serving
 pub mod Talking
 pub mod Opened
+mod Sending

@@ -62,7 +62,7 @@ after_choice Client w choice (Some e) uncut = record { own = refl; peer = refl; 
 after_choice Server w choice None uncut = record { own = refl; peer = refl; own_limits = refl; peer_limits = refl; link = refl }
 after_choice Server w choice (Some e) uncut = record { own = refl; peer = refl; own_limits = refl; peer_limits = refl; link = or_not w.link_cut (cuts_link choice) uncut }
 
-stepped : (end : EndId) (w now : State) (choice : Choice) (added : Option Event) → end_of choice ≡ end → cuts_link choice ≡ false → event_chosen w choice ≡ added → now ≡ step_of w choice
+pub stepped : (end : EndId) (w now : State) (choice : Choice) (added : Option Event) → end_of choice ≡ end → cuts_link choice ≡ false → event_chosen w choice ≡ added → now ≡ step_of w choice
     → HasStepped end added w now
 stepped end w now choice added own uncut chosen is =
     let there : now ≡ state_after w end choice added =
@@ -200,7 +200,7 @@ drive_chosen : (end : EndId) (w : State) → event_chosen w (choices.Drive end) 
 drive_chosen Client w = refl
 drive_chosen Server w = refl
 
-driven_up : (end : EndId) (w : State) → IsUp w → event_chosen w (choices.Drive end) ≡ driven false (next_event end (limits_of end w) (past_of end w))
+pub driven_up : (end : EndId) (w : State) → IsUp w → event_chosen w (choices.Drive end) ≡ driven false (next_event end (limits_of end w) (past_of end w))
 driven_up end w up =
     drive_chosen end w
     ∙ ap (λ (b : Bool). cond {A = Option Event} b None (driven w.link_cut (next_event end (limits_of end w) (past_of end w)))) (end_up end w up).uncut
@@ -231,7 +231,7 @@ carry_chosen Client w = refl
 carry_chosen Server w = refl
 
 -- a frame is taken, or there is none that may be
-Carries : Bool → List (List ℕ) → Option Event → Type 0
+unfoldable pub Carries : Bool → List (List ℕ) → Option Event → Type 0
 Carries ready frames None = ready ≡ true → frames ≡ []
 Carries ready frames (Some (Post n)) = ⊥
 Carries ready frames (Some (Submit m)) = ⊥
@@ -248,7 +248,7 @@ carries false true false [] c l = λ r. refl
 carries false true false (f ∷ later) c l = tt
 carries false false link frames c l = λ r. absurd (let b : ⊥ = cc in b)
 
-carried_up : (end : EndId) (w : State) → IsUp w
+pub carried_up : (end : EndId) (w : State) → IsUp w
     → Carries (is_ready end (limits_of end w) (past_of end w)) (frames_in_flight (past_of end w) (past_of (peer_of end) w)) (event_chosen w (choices.Carry end))
 carried_up end w up =
     subst (λ (o : Option Event). Carries (is_ready end (limits_of end w) (past_of end w)) (frames_in_flight (past_of end w) (past_of (peer_of end) w)) o) (sym (carry_chosen end w))
@@ -312,7 +312,7 @@ submit_chosen : (end : EndId) (w : State) (m : List ℕ) → event_chosen w (cho
 submit_chosen Client w m = refl
 submit_chosen Server w m = refl
 
-submitted_event : (end : EndId) (w : State) (m : List ℕ) → AreJointIn w → IsUp w → IsSendable m → event_chosen w (choices.Submit end m) ≡ Some (Submit m)
+pub submitted_event : (end : EndId) (w : State) (m : List ℕ) → AreJointIn w → IsUp w → IsSendable m → event_chosen w (choices.Submit end m) ≡ Some (Submit m)
 submitted_event end w m j up fits =
     let fault = never_refused end (limits_of end w) (past_of end w) m (accepted end w j) (end_up end w up) fits in
     submit_chosen end w m

@@ -1,3 +1,4 @@
 pub mod Clients
 pub mod Turns
 pub mod Ends
+pub mod Cuts

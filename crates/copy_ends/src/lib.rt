@@ -11,4 +11,4 @@ mod round;
 mod turns;
 
 pub use client_machine::ClientMachine;
-pub use round::{run_client, run_server};
+pub use round::{Share, cut_link, run_client, run_server};

@@ -3,6 +3,7 @@
 ghost use Rattle.std.specs.Prelude.{◌≡◌, [], ◌∷◌, true, false, IfOk, OnOk, OnErr};
 ghost use Rattle.world_core.specs.Newest.{newest_brought};
 ghost use Rattle.world_core.specs.Run.{past_of, limits_of};
+ghost use Rattle.copy_ends.specs.Cuts.{HasSentNext, HasSentNone};
 ghost use Rattle.copy_ends.specs.Turns.{IsUp, HasTurned, HasAdded, IsIdle, TakesNothing, IsSendable, heard_if};
 
 use smbd_base::{EndId, Message, NoMemory};
@@ -12,6 +13,7 @@ use world_core::{Choice, Step, World};
 pub fn drive(world: &mut World, end: EndId) -> Result<bool, NoMemory>
     requires { IsUp world.old }
     ensures turned { OnOk result (HasTurned end [] [] world.old world.new) }
+    ensures sent { OnOk result (HasSentNext end world.old world.new) }
     ensures one { IfOk result (λ did. did ≡ true → HasAdded 1 end world.old world.new) }
     ensures idle { IfOk result (λ did. did ≡ false → IsIdle end world.new) }
     ensures same { IfOk result (λ did. did ≡ false → world.new ≡ world.old) }
@@ -28,6 +30,7 @@ pub fn drive(world: &mut World, end: EndId) -> Result<bool, NoMemory>
 pub fn carry(world: &mut World, end: EndId) -> Result<bool, NoMemory>
     requires { IsUp world.old }
     ensures turned { IfOk result (λ took. HasTurned end [] (heard_if took (newest_brought end (limits_of end world.new) (past_of end world.new))) world.old world.new) }
+    ensures sent { OnOk result (HasSentNone end world.old world.new) }
     ensures one { IfOk result (λ took. took ≡ true → HasAdded 1 end world.old world.new) }
     ensures none { IfOk result (λ took. took ≡ false → TakesNothing end world.old world.new) }
     ensures unchanged { OnErr result (world.new ≡ world.old) }
@@ -44,6 +47,7 @@ pub fn submit(world: &mut World, end: EndId, message: Message) -> Result<(), NoM
     requires up { IsUp world.old }
     requires fits { IsSendable message }
     ensures turned { OnOk result (HasTurned end (message ∷ []) [] world.old world.new) }
+    ensures sent { OnOk result (HasSentNone end world.old world.new) }
     ensures one { OnOk result (HasAdded 1 end world.old world.new) }
     ensures unchanged { OnErr result (world.new ≡ world.old) }
 {

@@ -1,4 +1,5 @@
 use Rattle.copy_ends.proofs.Turning.{submitted_one, submitted_adds}
+use Rattle.copy_ends.proofs.Sending.{submitted_none}
 use Rattle.copy_ends.proofs.turns.submit.Goals as goal
 
 pub returns-clause-turned : goal.returns-clause-turned
@@ -8,3 +9,7 @@ returns-clause-turned c =
 pub returns-clause-one : goal.returns-clause-one
 returns-clause-one c =
     submitted_adds c.args.end c.args.world.now c.step.new.self c.args.message c.history.ensures.joint c.requires.up c.requires.fits c.in_ok-step.ensures.step
+
+pub returns-clause-sent : goal.returns-clause-sent
+returns-clause-sent c =
+    submitted_none c.args.end c.args.world.now c.step.new.self c.args.message c.history.ensures.joint c.requires.up c.requires.fits c.in_ok-step.ensures.step
