@@ -59,6 +59,7 @@ put-next o p None a m put s due after = record {
     under_way = s.under_way;
     client = s.client;
     server = subst (λ (x : Option (List ℕ)). CameBy o.kind (after_storing x p.server) m) (sym due) after;
+    left = s.left;
   };
   history = record { pool = refl; world = refl; clients = refl; servers = refl };
   crew = refl;
@@ -69,6 +70,7 @@ put-next o p (Some group) a m put s due after = record {
     under_way = stored-on o p group a.world a.crew (sym due) s.under_way;
     client = s.client;
     server = subst (λ (x : Option (List ℕ)). CameBy o.kind (after_storing x p.server) m) (sym due) after;
+    left = s.left;
   };
   bytes = stored-bytes o.kind group p;
   ended = stored-ended o.kind group p;
@@ -153,6 +155,7 @@ get-next o p None a m get s due after = record {
     under_way = s.under_way;
     client = subst (λ (x : Option (List ℕ)). ClientCameBy o.kind o.channel o.limits.pages (after_receiving x p.client) m) (sym due) after;
     server = s.server;
+    left = s.left;
   };
   history = record { pool = refl; world = refl; clients = refl; servers = refl };
   crew = refl;
@@ -163,6 +166,7 @@ get-next o p (Some group) a m get s due after = record {
     under_way = received-on o p group a.world a.crew (sym due) s.under_way;
     client = subst (λ (x : Option (List ℕ)). ClientCameBy o.kind o.channel o.limits.pages (after_receiving x p.client) m) (sym due) after;
     server = s.server;
+    left = s.left;
   };
   bytes = taken-bytes o.kind group p;
   ended = taken-ended o.kind group p;

@@ -1,5 +1,5 @@
 -- A copy that was just opened.
-use Rattle.std.proofs.Common.{◌≡◌, ℕ, ◌<◌, ◌^◌, List, [], length, map, refl, sym, ap, ◌∙◌, subst, arith}
+use Rattle.std.proofs.Common.{◌≡◌, inl, ℕ, zero, suc, ◌<◌, ◌^◌, Option, Some, None, List, [], length, map, refl, sym, ap, ◌∙◌, subst, arith}
 use Rattle.std.proofs.lemmas.List.{length-replicate}
 use Rattle.smbd_base.specs.Limits as limits
 use Rattle.smbd_base.specs.Limits.{Limits}
@@ -16,12 +16,14 @@ use Rattle.copy_laws.specs.Kinds.{IsClient}
 use Rattle.copy_laws.specs.Steps.{opened_pasts}
 use Rattle.copy_laws.proofs.StepsOpened.{opens}
 use Rattle.copy_runs.specs.CopyPasts.{bytes_of, Carries}
+use Rattle.copy_ends.specs.Cuts.{frames_sent, AreLeft}
 use Rattle.copy_ends.specs.declared.client_machine.ClientMachine.{ClientMachine}
 use Rattle.copy_ends.specs.Clients.{ClientCameBy}
 use Rattle.copy_ends.proofs.Opened.{opened_up, opened_follows}
 use Rattle.page_crew.specs.Crews.{CrewState, opened_crew}
 use Rattle.page_crew.proofs.Opening.{opened-sized, opened-coupled}
 use Rattle.copy_parts.specs.declared.options.CopyOptions.{CopyOptions}
+use Rattle.copy_parts.specs.Cuts.{EmitsFewer}
 use Rattle.copy_parts.specs.Options.{AreLawful}
 use Rattle.copy_parts.specs.Copies.{IsConnected, AreTied, AreManned, AreRuled, IsUnderWay}
 use Rattle.copy_parts.specs.Steps.{IsOpened}
@@ -38,10 +40,17 @@ carries-none : (kind : CopyKind) (channel : Channel) → Carries kind channel op
 carries-none kinds.Put channel = tt
 carries-none kinds.Get channel = (tt, (map reply_bytes (replies_to [] (get_requests channel [])), refl))
 
-connected : (o : CopyOptions) → limits.IsLawful o.limits → AreJointIn (opened_world o.limits o.limits) → AreDelivered (opened_world o.limits o.limits)
+-- frames are numbered from 1, and none was sent
+pub none-sent : (cut : Option ℕ) (l : Limits) → (cut ≡ Some 0 → ⊥) → EmitsFewer cut (opened_world l l).client
+none-sent None l numbered = tt
+none-sent (Some zero) l numbered = absurd (numbered refl)
+none-sent (Some (suc n)) l numbered = omega arith
+
+connected : (o : CopyOptions) → AreLawful o → limits.IsLawful o.limits → AreJointIn (opened_world o.limits o.limits) → AreDelivered (opened_world o.limits o.limits)
     → IsConnected o (opened_world o.limits o.limits)
-connected o lawful joint delivered = record {
-  up = opened_up o.limits o.limits;
+connected o may lawful joint delivered = record {
+  link = inl (opened_up o.limits o.limits);
+  few = none-sent o.cut o.limits may.numbered;
   client_limits = refl;
   server_limits = refl;
   lawful = lawful;
@@ -71,15 +80,15 @@ ruled o = record {
   carried = carries-none o.kind o.channel;
 }
 
-pub opened-parts : (o : CopyOptions) (pages : ℕ) (w : State) (m : ClientMachine) (s : FileServer) (c : CrewState) → AreLawful o → limits.IsLawful o.limits
+pub opened-parts : (o : CopyOptions) (pages : ℕ) (w : State) (m : ClientMachine) (s : FileServer) (c : CrewState) (left : Option ℕ) → AreLawful o → limits.IsLawful o.limits
     → pages ≡ o.limits.pages → w ≡ opened_world o.limits o.limits → AreJointIn w → AreDelivered w → ClientCameBy o.kind o.channel pages [] m → CameBy o.kind [] s
-    → c ≡ opened_crew o.workers pages → IsOpened o (record { world = w; client = m; server = s; crew = c })
-opened-parts o pages w m s c lawful l many world joint delivered client server crew =
+    → c ≡ opened_crew o.workers pages → AreLeft o.cut 0 left → IsOpened o (record { world = w; client = m; server = s; crew = c; left = left })
+opened-parts o pages w m s c left lawful l many world joint delivered client server crew before =
     let fresh : State = opened_world o.limits o.limits in
     let full : CrewState = opened_crew o.workers o.limits.pages in
     let is : c ≡ full = crew ∙ ap (λ (n : ℕ). opened_crew o.workers n) many in
     let begun : IsUnderWay o opened_pasts fresh full = record {
-      connected = connected o l (subst (λ (x : State). AreJointIn x) world joint) (subst (λ (x : State). AreDelivered x) world delivered);
+      connected = connected o lawful l (subst (λ (x : State). AreJointIn x) world joint) (subst (λ (x : State). AreDelivered x) world delivered);
       tied = tied o.limits;
       manned = manned o lawful l;
       ruled = ruled o;
@@ -91,5 +100,6 @@ opened-parts o pages w m s c lawful l many world joint delivered client server c
         under_way = subst (λ (x : State). IsUnderWay o opened_pasts x c) (sym world) (subst (λ (x : CrewState). IsUnderWay o opened_pasts fresh x) (sym is) begun);
         client = subst (λ (n : ℕ). ClientCameBy o.kind o.channel n [] m) many client;
         server = server;
+        left = subst (λ (x : State). AreLeft o.cut (frames_sent x.client) left) (sym world) before;
       };
     }

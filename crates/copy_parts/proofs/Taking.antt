@@ -228,7 +228,7 @@ pub put-taken : (o : CopyOptions) (p : Pasts) (bytes : List ℕ) (ended : Bool) 
 put-taken o p bytes ended a b m put s h g came =
     subst (λ (x : Parts). HasTaken o p bytes ended a (record x { client = m })) (sym g.same) (record {
       later = client_taken bytes ended p;
-      stands = record { under_way = put-takes o p bytes ended a.world a.crew s.under_way h put; client = came; server = s.server };
+      stands = record { under_way = put-takes o p bytes ended a.world a.crew s.under_way h put; client = came; server = s.server; left = s.left };
       more = put-more o p bytes ended a.world a.crew s.under_way h put;
       left = rw put refl;
       history = record { pool = refl; world = refl; clients = refl; servers = refl };
@@ -255,7 +255,7 @@ pub get-taken : (o : CopyOptions) (p : Pasts) (bytes : List ℕ) (ended : Bool) 
     → CameBy o.kind (Filled bytes ∷ p.server) m → HasTaken o p bytes ended a (record a { server = m })
 get-taken o p bytes ended a m get s h came = record {
   later = server_after (Filled bytes) p;
-  stands = record { under_way = get-takes o p bytes ended a.world a.crew s.under_way h get; client = s.client; server = came };
+  stands = record { under_way = get-takes o p bytes ended a.world a.crew s.under_way h get; client = s.client; server = came; left = s.left };
   more = get-more o p bytes ended a.world a.crew s.under_way h get;
   left = rw get refl;
   history = record { pool = refl; world = refl; clients = refl; servers = refl };

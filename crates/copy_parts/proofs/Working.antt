@@ -25,7 +25,7 @@ abbrev with_both : List ClientEvent → List ServerEvent → Pasts → Pasts
 with_both client server p = record p { client = client; server = server }
 
 abbrev parts_after : Parts → ClientMachine → FileServer → CrewState → Parts
-parts_after a m s d = record { world = a.world; client = m; server = s; crew = d }
+parts_after a m s d = record { world = a.world; client = m; server = s; crew = d; left = a.left }
 
 record HaveGoneOn (o : CopyOptions) (p q : Pasts) (a b : Parts) : Type 0 where
   stands : Stands o q b
@@ -53,6 +53,7 @@ both-on o p client server a m s c d h says brings same first replies fills group
             (carries-server o.kind o.channel q server fills u.ruled.carried) (manned-so o q r c d more.clients more.servers more.pages second.coupled u.manned) u;
         client = first.came;
         server = second.came;
+        left = h.left;
       };
       bytes = bytes-kept o p q r client-kept server-kept;
       history = record {

@@ -22,14 +22,16 @@ use Rattle.copy_laws.specs.Kinds.{job_due, group_wanted, IsClient}
 use Rattle.copy_runs.specs.CopyPasts.{bytes_of, Carries}
 use Rattle.copy_ends.specs.Clients.{ClientCameBy}
 use Rattle.copy_ends.specs.Ends.{RepliesFollow}
-use Rattle.copy_ends.specs.Turns.{IsUp}
+use Rattle.copy_ends.specs.Cuts.{frames_sent, AreLeft}
 use Rattle.page_crew.specs.Crews.{CrewState, IsSized, IsCrewOf}
+use Rattle.copy_parts.specs.Cuts.{EmitsFewer, IsLinked}
 use Rattle.copy_parts.specs.declared.options.CopyOptions.{CopyOptions}
 use Rattle.copy_parts.specs.declared.parts.Parts.{Parts}
 
--- nothing is cut, and both ends have the limits of the copy
+-- The link is cut only as was asked, and both ends have the limits of the copy.
 pub record IsConnected (o : CopyOptions) (world : State) : Type 0 where
-  pub up : IsUp world
+  pub link : IsLinked o world
+  pub few : EmitsFewer o.cut world.client
   pub client_limits : world.client_limits ≡ o.limits
   pub server_limits : world.server_limits ≡ o.limits
   pub lawful : limits.IsLawful o.limits
@@ -64,11 +66,12 @@ pub record IsUnderWay (o : CopyOptions) (p : Pasts) (world : State) (crew : Crew
   pub manned : AreManned o p crew
   pub ruled : AreRuled o p
 
--- and the machines came to stand by these pasts
+-- and the machines came to stand by these pasts, and the client may send so many frames before the link is cut
 pub record Stands (o : CopyOptions) (p : Pasts) (parts : Parts) : Type 0 where
   pub under_way : IsUnderWay o p parts.world parts.crew
   pub client : ClientCameBy o.kind o.channel o.limits.pages p.client parts.client
   pub server : CameBy o.kind p.server parts.server
+  pub left : AreLeft o.cut (frames_sent parts.world.client) parts.left
 
 -- the machine at the source of the bytes wants more of them
 abbrev pub wants_bytes : CopyKind → Channel → ℕ → Pasts → Bool

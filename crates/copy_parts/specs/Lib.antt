@@ -1,3 +1,4 @@
 pub mod Options
+pub mod Cuts
 pub mod Copies
 pub mod Steps

@@ -8,11 +8,12 @@ use Rattle.file_pasts.specs.ClientPast.{requests_sent}
 use Rattle.copy_laws.specs.Coupled.{Pasts}
 use Rattle.copy_laws.specs.Steps.{opened_pasts}
 use Rattle.copy_runs.specs.CopyPasts.{bytes_of, ended_of, groups_out, group_left}
-use Rattle.copy_ends.specs.Turns.{HasGrown, HasAdded, IsIdle}
+use Rattle.copy_ends.specs.Turns.{HasGrown, HasAdded, IsIdle, IsUp}
 use Rattle.copy_ends.specs.declared.client_machine.ClientMachine.{ClientMachine}
 use Rattle.copy_ends.specs.declared.client_machine.ClientMachine.TheVariants.{Put, Get}
 use Rattle.page_crew.specs.Crews.{CrewState, HasNone, lines_of, told, AllGrew, opened_crew, HaveTurned}
 use Rattle.smbd_base.specs.declared.end_id.EndId.TheVariants.{Client, Server}
+use Rattle.smbd_base.specs.History.{is_cut}
 use Rattle.file_pasts.specs.ServerDue.{next_reply}
 use Rattle.copy_laws.specs.Kinds.{request_due}
 use Rattle.copy_parts.specs.declared.options.CopyOptions.{CopyOptions}
@@ -137,18 +138,30 @@ pub record MayTake (kind : CopyKind) (bytes : List ℕ) (ended : Bool) (parts : 
 
 -- ---- a round
 
--- Nothing was left to do at the client's end: nothing comes next there, it has taken each frame that the server had sent before the round,
--- and no request is due.
+-- Nothing was left to do at the client's end: nothing comes next there, and unless it is cut, it has taken each frame that the server had
+-- sent before the round, and no request is due.
 pub record ClientIsIdle (o : CopyOptions) (later : Pasts) (old new : State) : Type 0 where
   pub idle : IsIdle Client new
-  pub taken : frames_in_flight new.client old.server ≡ []
-  pub due : request_due o.kind o.channel o.limits.pages later.client ≡ None
+  pub taken : is_cut new.client ≡ false → frames_in_flight new.client old.server ≡ []
+  pub due : is_cut new.client ≡ false → request_due o.kind o.channel o.limits.pages later.client ≡ None
 
--- Nor at the server's, which came after: it has taken each frame that the client has sent, and no reply is due.
+-- Nor at the server's, which came after: unless it is cut, it has taken each frame that the client has sent, and no reply is due.
 pub record ServerIsIdle (o : CopyOptions) (later : Pasts) (new : State) : Type 0 where
   pub idle : IsIdle Server new
-  pub taken : frames_in_flight new.server new.client ≡ []
-  pub due : next_reply o.kind later.server ≡ None
+  pub taken : is_cut new.server ≡ false → frames_in_flight new.server new.client ≡ []
+  pub due : is_cut new.server ≡ false → next_reply o.kind later.server ≡ None
+
+-- What both ends did: 64 events, or all that was left to do. The workers did nothing.
+pub record HaveEndsRun (o : CopyOptions) (p : Pasts) (a b : Parts) : Type 0 where
+  pub later : Pasts
+  pub stands : Stands o later b
+  pub bytes : KeepsBytes o p later
+  pub pool : later.pool ≡ p.pool
+  pub client : HasGrown a.world.client b.world.client
+  pub server : HasGrown a.world.server b.world.server
+  pub client_share : HasAdded 64 Client a.world b.world ⊎ ClientIsIdle o later a.world b.world
+  pub server_share : HasAdded 64 Server a.world b.world ⊎ ServerIsIdle o later b.world
+  pub crew : b.crew ≡ a.crew
 
 -- What both ends and all workers did. An end did 64 events, or all that was left to do.
 pub record HasRun (o : CopyOptions) (p : Pasts) (a b : Parts) : Type 0 where
@@ -163,11 +176,12 @@ pub record HasRun (o : CopyOptions) (p : Pasts) (a b : Parts) : Type 0 where
   pub server_share : HasAdded 64 Server a.world b.world ⊎ ServerIsIdle o later b.world
   pub turned : HaveTurned a.crew b.crew
 
--- each request that may come next has a number
+-- nothing is cut, and each request that may come next has a number
 pub record MayRun (parts : Parts) : Type 0 where
   pub options : CopyOptions
   pub past : Pasts
   pub stands : Stands options past parts
+  pub up : IsUp parts.world
   pub few : length (requests_sent past.client) + 64 < 4294967295
 
 -- the parts stand so by some past

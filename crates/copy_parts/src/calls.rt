@@ -1,7 +1,9 @@
 //! What the parts of a copy do.
 
 ghost use Rattle.std.specs.Prelude.{◌≡◌, ◌<◌, length, slice_get, Some, IfOk, reverse};
+ghost use Rattle.smbd_base.specs.History.{is_cut};
 ghost use Rattle.world_core.specs.Run.{past_of};
+ghost use Rattle.copy_ends.specs.Cuts.{AreLeft};
 ghost use Rattle.copy_laws.specs.Coupled.{Pasts};
 ghost use Rattle.copy_laws.specs.Kinds.{is_over};
 ghost use Rattle.page_crew.specs.Crews.{lines_of, workers_of};
@@ -34,7 +36,15 @@ impl Parts {
             client: ClientMachine::open(alloc, options.kind, options.channel, pages)?,
             server: FileServer::open(alloc, options.kind)?,
             crew: Crew::open(alloc, options.workers, pages)?,
+            left: frames_before(options.cut),
         })
+    }
+
+    /// Whether the client has cut the link.
+    pub fn is_cut(&self) -> bool
+        ensures { result ≡ is_cut self.now.world.client }
+    {
+        self.world.is_cut(EndId::Client)
     }
 
     /// The events of an end, in the order of time.
@@ -72,5 +82,16 @@ impl Parts {
         ensures { (o : Options) (p : Pasts) → Stands o p self.now → result ≡ is_over o.kind p.client }
     {
         self.client.finished()
+    }
+}
+
+/// How many frames the client may send before it cuts the link in the place of the frame of this number.
+fn frames_before(cut: Option<u32>) -> Option<u32>
+    requires { cut ≡ Some 0 → ⊥ }
+    ensures { AreLeft cut 0 result }
+{
+    match cut {
+        None => None,
+        Some(number) => Some(number - 1),
     }
 }

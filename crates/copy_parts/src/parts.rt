@@ -12,4 +12,6 @@ pub struct Parts {
     pub(crate) client: ClientMachine,
     pub(crate) server: FileServer,
     pub(crate) crew: Crew,
+    /// How many frames the client may send before it cuts the link, where it is to cut it.
+    pub(crate) left: Option<u32>,
 }

@@ -4,8 +4,10 @@ use Rattle.std.specs.Io.KnownBytes.{Consumes, IsAtEnd}
 use Rattle.std.specs.Vec.{vec_capacity}
 use Rattle.std.specs.declared.vec.Vec.{Vec}
 use Rattle.std.proofs.KnownBytes.{Consumes-trans}
+use Rattle.smbd_base.specs.History.{is_cut}
 use Rattle.smbd_outside.specs.declared.status.Status.{Status}
 use Rattle.smbd_outside.specs.declared.status.Status.TheVariants.{NoMemory}
+use Rattle.world_core.specs.Run.{State}
 use Rattle.file_messages.specs.declared.layout.TheConstants.{GROUP_SIZE}
 use Rattle.file_messages.specs.declared.kind.CopyKind.{CopyKind}
 use Rattle.copy_laws.specs.Coupled.{Pasts}
@@ -16,7 +18,7 @@ use Rattle.copy_parts.specs.declared.parts.Parts.{Parts}
 use Rattle.copy_parts.specs.Copies.{Stands, wants_bytes}
 use Rattle.copy_parts.specs.Steps.{NoneWaits, AreWanted, HasTaken, MayTake}
 use Rattle.end_workers.specs.declared.copy.Copy.{Copy}
-use Rattle.end_workers.specs.Progress.{moved, HasRead, IsStoredAll, IsReadAll, IsWanted, GoesOn, bytes_left, StopsReading}
+use Rattle.end_workers.specs.Progress.{moved, HasRead, StaysUncut, IsReadAll, IsWanted, GoesOn, bytes_left, StopsReading}
 use Rattle.end_workers.specs.Promise.{Stream, KeepsPromise}
 use Rattle.end_workers.specs.Sizes.{most_bytes}
 use Rattle.end_workers.proofs.LogsKept.{kept-tellable, kept-stored}
@@ -113,7 +115,7 @@ pub record HasGiven (from : Stream) (now : Option (List ℕ)) (faults : ℕ) (by
 
 pub bytes-stored : (c : Copy) (b : Parts) (group : Vec ℕ Global) (bytes : List ℕ) (len : ℕ) (ended : Bool) (o : CopyOptions) (from to log : Stream) (now : Option (List ℕ)) (faults : ℕ)
     → GoesOn c → IsWanted c → IsNext c.read bytes ended → Takes c bytes ended b → len ≡ length bytes → GROUP_SIZE ≤ vec_capacity group → HasGiven from now faults bytes ended
-    → IsStoredAll o from to log c → IsStoredAll o (moved from now faults) to log (with_bytes c b group (c.read + len) ended)
+    → StaysUncut o from to log c → StaysUncut o (moved from now faults) to log (with_bytes c b group (c.read + len) ended)
 bytes-stored c b group bytes len ended o from to log now faults h i n takes count room given all =
     let s = all.settled in
     let f = s.so_far in
@@ -136,6 +138,7 @@ bytes-stored c b group bytes len ended o from to log now faults h i n takes coun
           (settled-on o from to log (moved from now faults) to s.past t.later c b group (c.read + len) ended (by_past o from to log c s) t.stands t.history
           (subst (λ (crew : CrewState). NoneWaits crew) (sym t.crew) s.handed) read (kept-stored o s.past t.later to t.more.groups f.stored) room);
       none = t.left ∙ all.none;
+      uncut = ap (λ (w : State). is_cut w.client) t.history.world ∙ all.uncut;
     }
 
 pub given-of : (from : Stream) (was now : Option (List ℕ)) (count faults : ℕ) (bytes : List ℕ) (ended : Bool) → from.now ≡ was → from.faults ≡ count → Consumes was now bytes → (ended ≡ true → IsAtEnd now) → count ≤ faults
@@ -150,14 +153,14 @@ may-take c bytes ended h i n =
 -- ---- how reading stops
 
 pub reading-stops : (c : Copy) (o : CopyOptions) (from to log : Stream) (was now : Option (List ℕ)) (count faults : ℕ) (status : Status) (more : List ℕ) → GoesOn c → IsWanted c
-    → from.now ≡ was → from.faults ≡ count → IsStoredAll o from to log c → Consumes was now more → length more < GROUP_SIZE → StopsReading status c.read (length more) count faults
+    → from.now ≡ was → from.faults ≡ count → StaysUncut o from to log c → Consumes was now more → length more < GROUP_SIZE → StopsReading status c.read (length more) count faults
     → KeepsPromise status o (moved from now faults) to log
 reading-stops c o from to log was now count faults status more h i was_is count_is all read few stops =
-    keeps-read-stop o from to log c status now faults more all.settled (is-open c h i) (subst (λ (x : Option (List ℕ)). Consumes x now more) (sym was_is) read) few
+    keeps-read-stop o from to log c status now faults more all.settled all.uncut (is-open c h i) (subst (λ (x : Option (List ℕ)). Consumes x now more) (sym was_is) read) few
     (subst (λ (n : ℕ). StopsReading status c.read (length more) n faults) (sym count_is) stops)
 
 pub taking-stops : (c : Copy) (bytes : List ℕ) (ended : Bool) (o : CopyOptions) (from to log : Stream) (now : Option (List ℕ)) (faults : ℕ) → IsWanted c → IsNext c.read bytes ended
-    → HasGiven from now faults bytes ended → IsStoredAll o from to log c → KeepsPromise NoMemory o (moved from now faults) to log
+    → HasGiven from now faults bytes ended → StaysUncut o from to log c → KeepsPromise NoMemory o (moved from now faults) to log
 taking-stops c bytes ended o from to log now faults i n given all =
     let s = all.settled in
     let f = s.so_far in
@@ -167,8 +170,8 @@ taking-stops c bytes ended o from to log now faults i n given all =
 
 -- ---- no more is wanted
 
-pub all-read : (c : Copy) (w : Bool) (o : CopyOptions) (from to log : Stream) → w ≡ false → TellsWants c w → IsStoredAll o from to log c → IsReadAll o from to log c
+pub all-read : (c : Copy) (w : Bool) (o : CopyOptions) (from to log : Stream) → w ≡ false → TellsWants c w → StaysUncut o from to log c → IsReadAll o from to log c
 all-read c w o from to log e tells all =
     let s = all.settled in
     let kind : o.kind ≡ c.options.kind = ap (λ (x : CopyOptions). x.kind) (sym s.so_far.options) in
-    record { settled = s; none = all.none; fed = wants-none c w e tells o s.past kind s.so_far.stands }
+    record { settled = s; none = all.none; uncut = all.uncut; fed = wants-none c w e tells o s.past kind s.so_far.stands }

@@ -3,9 +3,10 @@ use Rattle.std.proofs.Common.{◌≡◌, inl, inr, ℕ, ◌+◌, ◌%◌, ◌<�
 use Rattle.std.proofs.KnownBytes.{Appends-trans, Consumes-trans}
 use Rattle.std.specs.Io.KnownBytes.{Appends, Consumes, IsAtEnd}
 use mathlib.Core.List.{IsPrefix}
+use Rattle.smbd_base.specs.History.{is_cut}
 use Rattle.smbd_base.specs.Pages.{Entry, PageState}
 use Rattle.smbd_outside.specs.declared.status.Status.{Status}
-use Rattle.smbd_outside.specs.declared.status.Status.TheVariants.{Done, WriteFault, LogFault, NoMemory}
+use Rattle.smbd_outside.specs.declared.status.Status.TheVariants.{Done, WriteFault, LogFault, Cut, NoMemory}
 use Rattle.smbd_outside.specs.Causes.{Rose}
 use Rattle.world_core.specs.Run.{State}
 use Rattle.file_messages.specs.declared.layout.TheConstants.{GROUP_SIZE}
@@ -37,6 +38,7 @@ use Rattle.end_workers.specs.Promise.{Stream, Moves, StoresGroups, KeepsPromise,
 use Rattle.end_workers.specs.Progress.{moved, joined, deeds_now, HasRead, WasToldFirst, IsSoFar, IsSettled, IsAfterBarrier, StopsReading}
 use Rattle.end_workers.proofs.SoundingGroups.{prefix-of, prefix-append, prefix-is, joined-append, joined-groups, usable-all, usable-rest}
 use Rattle.end_workers.proofs.SoundingCopies.{is-copy, heard-is}
+use Rattle.end_workers.proofs.Cutting.{cut-of}
 use Rattle.end_workers.proofs.Sounding.{course_of, run-of, told-now, IsOf, sounds}
 
 -- a stream as it is told
@@ -204,7 +206,7 @@ module _ (o : CopyOptions) (source sink log : Stream) (c : Copy) (s : IsSettled 
     }
 
   -- with some bytes more that were read, fewer than a group's
-  module _ (more : List ℕ) (goes_on : c.ended ≡ false) (few : length more < 65536) where
+  module _ (more : List ℕ) (uncut : is_cut c.parts.world.client ≡ false) (goes_on : c.ended ≡ false) (few : length more < 65536) where
     rest-usable : usable false (bytes_of o.kind s.past ++ more) ≡ bytes_of o.kind s.past
     rest-usable = usable-rest (bytes_of o.kind s.past) more (read-whole o s.past source c.read c.ended s.so_far.read goes_on) few
 
@@ -238,7 +240,7 @@ module _ (o : CopyOptions) (source sink log : Stream) (c : Copy) (s : IsSettled 
           elim stops as (λ _. KeepsPromise status o (moved source now faults) sink log) [
             | inl long ↦
                 subst (λ (t : Status). KeepsPromise t o (moved source now faults) sink log) (sym long.0)
-                (record { course = course; moves = rest-moves; sound = sound; ends = (s.is_log, subst (λ (n : ℕ). most_bytes < n) (sym rest-long) long.1, rest-groups, refl) })
+                (record { course = course; moves = rest-moves; sound = sound; ends = (s.is_log, subst (λ (n : ℕ). most_bytes < n) (sym rest-long) long.1, rest-groups, refl, uncut) })
             | inr fault ↦
                 subst (λ (t : Status). KeepsPromise t o (moved source now faults) sink log) (sym fault.0)
                 (record {
@@ -251,6 +253,7 @@ module _ (o : CopyOptions) (source sink log : Stream) (c : Copy) (s : IsSettled 
                     rest-groups,
                     rose-since source.faults_before source.faults faults s.so_far.read.later fault.2,
                     refl,
+                    uncut,
                   );
                 })
           ]
@@ -262,9 +265,9 @@ keeps-write-fault o source sink log c now faults group front parts s came begins
 
 -- the source failed, or gave more bytes than may be copied, before a group's were read
 pub keeps-read-stop : (o : CopyOptions) (source sink log : Stream) (c : Copy) (status : Status) (now : Option (List ℕ)) (faults : ℕ) (more : List ℕ) (s : IsSettled o source sink log c)
-    → c.ended ≡ false → Consumes source.now now more → length more < GROUP_SIZE → StopsReading status c.read (length more) source.faults faults
+    → is_cut c.parts.world.client ≡ false → c.ended ≡ false → Consumes source.now now more → length more < GROUP_SIZE → StopsReading status c.read (length more) source.faults faults
     → KeepsPromise status o (moved source now faults) sink log
-keeps-read-stop o source sink log c status now faults more s goes_on got few stops = read-stop o source sink log c s more goes_on few now faults got status stops
+keeps-read-stop o source sink log c status now faults more s uncut goes_on got few stops = read-stop o source sink log c s more uncut goes_on few now faults got status stops
 
 -- bytes were read, and no machine could take them
 pub keeps-no-memory-reading : (o : CopyOptions) (source sink log : Stream) (c : Copy) (now : Option (List ℕ)) (faults : ℕ) (bytes : List ℕ) (ended : Bool) (s : IsSettled o source sink log c)
@@ -300,6 +303,28 @@ keeps-no-memory-reading o source sink log c now faults bytes ended s wanted can 
       ends = (whole-begins (deeds_now o can.later c.parts) s.so_far.told.text log_is, omega (arith, short, long, read), (groups.0, ap joined (sym can.more.groups) ∙ groups.1));
     }
 
+-- ---- a copy that is cut
+
+-- the client has cut the link
+pub keeps-cut : (o : CopyOptions) (source sink log : Stream) (c : Copy) → IsSettled o source sink log c → is_cut c.parts.world.client ≡ true → KeepsPromise Cut o source sink log
+keeps-cut o source sink log c s is =
+    let p = s.past in
+    let f = s.so_far in
+    let u = f.stands.under_way in
+    let cut = cut-of o c.parts.world u.connected.link is in
+    record {
+      course = course_of o p c.parts.world (bytes_of o.kind p) c.ended (joined (groups_out o.kind p)) f.told.text;
+      moves = moves-so-far o source sink log p p.pool (deeds_now o p c.parts) c f;
+      sound = sounds o p c.parts.world c.parts.crew (bytes_of o.kind p) c.ended (joined (groups_out o.kind p)) f.told.text u
+          (of-so-far o source sink log p p.pool (deeds_now o p c.parts) c f) f.told.first;
+      ends = (
+        s.is_log,
+        short-so-far o source sink log p p.pool (deeds_now o p c.parts) c f,
+        groups-so-far o source sink log p p.pool (deeds_now o p c.parts) c f,
+        record { number = cut.number; asked = cut.asked; place = cut.place },
+      );
+    }
+
 -- ---- a copy that is done
 
 -- the client has taken END's reply
@@ -326,5 +351,6 @@ keeps-done o source sink log c a over =
           answered = sym (heard-is o p c.parts.world c.parts.crew u) ∙ whole.answered;
         },
         s.so_far.read.last ended,
+        a.uncut,
       );
     }

@@ -1,5 +1,5 @@
 -- How a copy ends that could not be opened.
-use Rattle.std.proofs.Common.{◌≡◌, ℕ, zero, suc, ◌+◌, false, Option, Some, None, List, [], ◌∷◌, ◌++◌, length, replicate, refl, sym, ap, ◌∙◌, subst, append-nil, lit<, arith}
+use Rattle.std.proofs.Common.{◌≡◌, inl, ℕ, zero, suc, ◌+◌, false, Option, Some, None, List, [], ◌∷◌, ◌++◌, length, replicate, refl, sym, ap, ◌∙◌, subst, append-nil, lit<, arith}
 use Rattle.std.specs.Prelude.{slice_get}
 use Rattle.std.proofs.lemmas.List.{length-replicate}
 use Rattle.std.specs.Io.KnownBytes.{Appends, Consumes}
@@ -31,15 +31,17 @@ use Rattle.copy_ends.proofs.Opened.{opened_up}
 use Rattle.copy_parts.specs.declared.options.CopyOptions.{CopyOptions}
 use Rattle.copy_parts.specs.Options.{AreLawful}
 use Rattle.copy_parts.specs.Copies.{IsConnected, AreManned, AreRuled, IsUnderWay}
+use Rattle.copy_parts.proofs.Opening.{none-sent}
 use Rattle.end_workers.specs.Promise.{Stream, KeepsPromise}
 use Rattle.end_workers.specs.Progress.{IsUntouched, joined}
 use Rattle.end_workers.proofs.Sounding.{course_of, sounds}
 
 -- ---- both ends just opened, beside machines and workers to which nothing was given
 
-connected : (o : CopyOptions) → IsLawful o.limits → IsConnected o (opened_world o.limits o.limits)
-connected o lawful = record {
-  up = opened_up o.limits o.limits;
+connected : (o : CopyOptions) → AreLawful o → IsLawful o.limits → IsConnected o (opened_world o.limits o.limits)
+connected o may lawful = record {
+  link = inl (opened_up o.limits o.limits);
+  few = none-sent o.cut o.limits may.numbered;
   client_limits = refl;
   server_limits = refl;
   lawful = lawful;
@@ -99,7 +101,7 @@ ruled o = record {
 
 under-way : (o : CopyOptions) → AreLawful o → IsLawful o.limits → IsUnderWay o opened_pasts (opened_world o.limits o.limits) (opened_crew o.workers o.limits.pages)
 under-way o lawful limits = record {
-  connected = connected o limits;
+  connected = connected o lawful limits;
   tied = record { sent = refl; heard = refl; replied = refl; asked = refl };
   manned = manned o lawful limits;
   ruled = ruled o;

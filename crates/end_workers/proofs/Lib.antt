@@ -6,6 +6,7 @@ pub mod LogsKept
 pub mod LogsHanded
 pub mod LogsTold
 pub mod LogsStopping
+pub mod Cutting
 pub mod SoundingGroups
 pub mod SoundingCopies
 pub mod Sounding

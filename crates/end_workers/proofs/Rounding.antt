@@ -5,7 +5,7 @@ use Rattle.std.proofs.lemmas.List.{length-map, map-append}
 use Rattle.std.proofs.lemmas.Option.{slice_get_within, slice_get-get_or}
 use Rattle.smbd_base.specs.declared.event.Event.{Event}
 use Rattle.smbd_base.specs.declared.page_event.PageEvent.{PageEvent}
-use Rattle.smbd_base.specs.History.{messages_submitted}
+use Rattle.smbd_base.specs.History.{messages_submitted, is_cut}
 use Rattle.smbd_base.specs.Pages.{Entry}
 use Rattle.event_log.specs.Lines.{logged_page}
 use Rattle.event_log.specs.declared.log_line.LogLine.{LogLine}
@@ -18,7 +18,7 @@ use Rattle.copy_laws.specs.Coupled.{Pasts}
 use Rattle.copy_laws.specs.Laws.{client_lists, server_lists}
 use Rattle.copy_runs.specs.CopyPasts.{bytes_of, ended_of, groups_out}
 use Rattle.copy_runs.proofs.RequestsFew.{requests-are-few}
-use Rattle.copy_ends.specs.Turns.{HasGrown}
+use Rattle.copy_ends.specs.Turns.{HasGrown, IsUp}
 use Rattle.page_crew.specs.Crews.{CrewState, AllGrew}
 use Rattle.copy_parts.specs.declared.options.CopyOptions.{CopyOptions}
 use Rattle.copy_parts.specs.declared.parts.Parts.{Parts}
@@ -47,12 +47,12 @@ submitted-few o p world crew u short =
 few-of : (c : Copy) → GoesOn c → length (messages_submitted c.parts.world.client) ≤ 258
 few-of c h = submitted-few c.options h.past c.parts.world c.parts.crew h.stands.under_way (subst (λ (n : ℕ). n ≤ most_bytes) h.read h.short)
 
-pub may-run : (c : Copy) → GoesOn c → MayRun c.parts
-may-run c h =
+pub may-run : (c : Copy) → GoesOn c → IsUp c.parts.world → MayRun c.parts
+may-run c h up =
     let few = few-of c h in
     let sent : length (messages_submitted c.parts.world.client) ≡ length (requests_sent h.past.client) =
     ap length h.stands.under_way.tied.sent ∙ length-map (requests_sent h.past.client) request_bytes in
-    record { options = c.options; past = h.past; stands = h.stands; few = omega (arith, few, sent) }
+    record { options = c.options; past = h.past; stands = h.stands; up = up; few = omega (arith, few, sent) }
 
 pub few-submitted : (c : Copy) (events : List Event) → GoesOn c → reverse events ≡ c.parts.world.client → length (messages_submitted (reverse events)) ≤ 4294967295
 few-submitted c events h is = (let few = few-of c h in let same : length (messages_submitted (reverse events)) ≡ length (messages_submitted c.parts.world.client) =
@@ -136,6 +136,7 @@ jobs-given o from to log c b r given =
           (by_past o from to log c s) given.stands given.history (given.waits s.handed) (kept-read o s.past given.later from c.read c.ended given.bytes s.so_far.read)
           (kept-stored o s.past given.later to given.bytes.groups s.so_far.stored) s.so_far.room);
       none = given.left ∙ r.none;
+      uncut = ap (λ (w : State). is_cut w.client) given.history.world ∙ r.uncut;
       fed = given.wants ∙ r.fed;
       given = given.none;
     }

@@ -34,6 +34,7 @@ use Rattle.copy_parts.specs.Copies.{IsUnderWay}
 use Rattle.end_workers.specs.Promise as promise
 use Rattle.end_workers.specs.Promise.{Course, IsSoundCourse, IsToldFirst, HaveBrought, groups_begun, usable}
 use Rattle.end_workers.specs.Progress.{WasToldFirst, delivered_at, joined}
+use Rattle.end_workers.proofs.Cutting.{as-asked}
 use Rattle.end_workers.proofs.SoundingGroups.{prefix-of, take-prefix, joined-prefix, joined-groups, begun-most, usable-front}
 use Rattle.end_workers.proofs.SoundingCopies.{is-copy, messages-are, delivered-more}
 
@@ -186,8 +187,7 @@ module _ (o : CopyOptions) (p : Pasts) (world : State) (crew : CrewState) (u : I
     sound : (0 < length stored → WasToldFirst o world (length (groups_out o.kind p)) text) → IsSoundCourse o (course_of o p world bytes ended stored text)
     sound first = record {
       joint = joint;
-      client_uncut = u.connected.up.client.uncut;
-      server_uncut = u.connected.up.server.uncut;
+      cuts = as-asked o.cut o world refl u.connected.link u.connected.few;
       credits = balances o.limits o.limits world.client world.server u.connected.lawful u.connected.lawful joint;
       client_receives = client_meets o.limits o.limits world.client world.server u.connected.lawful u.connected.lawful joint;
       server_receives = server_meets o.limits o.limits world.client world.server u.connected.lawful u.connected.lawful joint;

@@ -2,6 +2,7 @@
 use Rattle.std.specs.Prelude.{◌≡◌, Bool, true, false}
 use Rattle.smbd_outside.specs.declared.status.Status.TheVariants as statuses
 use Rattle.copy_laws.specs.Kinds.{is_over}
+use Rattle.copy_ends.specs.Turns.{IsUp}
 use Rattle.copy_parts.specs.declared.options.CopyOptions.{CopyOptions}
 use Rattle.end_workers.specs.declared.barrier.Barrier.{Barrier}
 use Rattle.end_workers.specs.declared.barrier.Barrier.TheVariants.{More, Done, Stop}
@@ -9,11 +10,12 @@ use Rattle.end_workers.specs.declared.copy.Copy.{Copy}
 use Rattle.end_workers.specs.Progress.{GoesOn, IsAfterBarrier}
 use Rattle.end_workers.specs.Promise.{Stream, KeepsPromise}
 
--- nothing is left to do at this barrier, and the client has taken END's reply, or not
+-- nothing is left to do at this barrier, nothing is cut, and the client has taken END's reply, or not
 pub record GoesToRound (over : Bool) (o : CopyOptions) (source sink log : Stream) (c : Copy) : Type 0 where
   pub after : IsAfterBarrier o source sink log c
   pub over_is : is_over o.kind after.settled.past.client ≡ over
   pub on : GoesOn c
+  pub up : IsUp c.parts.world
 
 abbrev pub HasEnded : Bool → CopyOptions → Stream → Stream → Stream → Copy → Type 0
 HasEnded true o source sink log c = GoesToRound true o source sink log c × KeepsPromise statuses.Done o source sink log

@@ -7,6 +7,7 @@ use mathlib.Core.List.{IsPrefix}
 use Rattle.smbd_base.specs.declared.end_id.EndId.TheVariants.{Client, Server}
 use Rattle.smbd_base.specs.declared.page_event.PageEvent.{PageEvent}
 use Rattle.smbd_base.specs.Delivery.{messages_delivered}
+use Rattle.smbd_base.specs.History.{is_cut}
 use Rattle.smbd_base.specs.Pages.{Entry}
 use Rattle.smbd_base.specs.PagesFit.{events_by}
 use Rattle.smbd_outside.specs.declared.status.Status.{Status}
@@ -164,16 +165,24 @@ pub record IsStoredAll (o : CopyOptions) (source sink log : Stream) (c : Copy) :
   pub settled : IsSettled o source sink log c
   pub none : group_left o.kind o.channel settled.past ≡ None
 
+-- and the client has not cut the link
+pub record StaysUncut (o : CopyOptions) (source sink log : Stream) (c : Copy) : Type 0 where
+  pub settled : IsSettled o source sink log c
+  pub none : group_left o.kind o.channel settled.past ≡ None
+  pub uncut : is_cut c.parts.world.client ≡ false
+
 -- and the machine at the source wants no more bytes, or the end was seen
 pub record IsReadAll (o : CopyOptions) (source sink log : Stream) (c : Copy) : Type 0 where
   pub settled : IsSettled o source sink log c
   pub none : group_left o.kind o.channel settled.past ≡ None
+  pub uncut : is_cut c.parts.world.client ≡ false
   pub fed : wants_bytes o.kind o.channel o.limits.pages settled.past ≡ false
 
 -- and all jobs that are due were given
 pub record IsAfterBarrier (o : CopyOptions) (source sink log : Stream) (c : Copy) : Type 0 where
   pub settled : IsSettled o source sink log c
   pub none : group_left o.kind o.channel settled.past ≡ None
+  pub uncut : is_cut c.parts.world.client ≡ false
   pub fed : wants_bytes o.kind o.channel o.limits.pages settled.past ≡ false
   pub given : NoJobsDue o settled.past
 

@@ -1,5 +1,5 @@
 -- The promise of a copy (this project's own). A past, and a list of page events, has the newest event first.
-use Rattle.std.specs.Prelude.{◌≡◌, ℕ, ◌*◌, ◌/◌, ◌<◌, ◌≤◌, ◌++◌, Bool, true, false, Option, Some, List, length, take, if◌then◌else◌}
+use Rattle.std.specs.Prelude.{◌≡◌, ℕ, ◌*◌, ◌/◌, ◌<◌, ◌≤◌, ◌++◌, Bool, true, false, Option, None, Some, List, length, take, if◌then◌else◌}
 use Rattle.std.specs.Io.KnownBytes.{Appends, Consumes, IsAtEnd}
 use Rattle.std.specs.List.{flat_map}
 use mathlib.Core.List.{IsPrefix}
@@ -7,6 +7,7 @@ use Rattle.smbd_base.specs.declared.end_id.EndId.TheVariants.{Client, Server}
 use Rattle.smbd_base.specs.declared.event.Event.{Event}
 use Rattle.smbd_base.specs.declared.page_event.PageEvent.{PageEvent}
 use Rattle.smbd_base.specs.History.{messages_submitted, is_cut}
+use Rattle.smbd_base.specs.Limits.{Limits}
 use Rattle.smbd_base.specs.Delivery.{messages_delivered}
 use Rattle.smbd_base.specs.Joint.{AreJoint}
 use Rattle.smbd_base.specs.PagesFit.{PagesFit}
@@ -21,9 +22,11 @@ use Rattle.file_messages.specs.declared.kind.CopyKind.TheVariants as kinds
 use Rattle.file_messages.specs.Runs.{groups_of}
 use Rattle.copy_laws.specs.PagesOfCopies.{AreInTurn}
 use Rattle.copy_runs.specs.Runs.{Messages, request_messages, reply_messages, IsRun}
+use Rattle.copy_ends.specs.Cuts.{frames_sent}
 use Rattle.copy_ends.specs.Ends.{RepliesFollow}
 use Rattle.copy_ends.specs.Turns.{HasGrown}
 use Rattle.copy_log.specs.CopyLogs.{Deeds, IsLog, BeginsLog}
+use Rattle.copy_parts.specs.Cuts.{IsCutInPlace}
 use Rattle.copy_parts.specs.declared.options.CopyOptions.{CopyOptions}
 use Rattle.end_workers.specs.Sizes.{most_bytes}
 
@@ -99,14 +102,28 @@ pub record IsToldFirst (o : CopyOptions) (c : Course) : Type 0 where
   pub begins : IsPrefix text c.text
   pub brought : HaveBrought o.kind o (groups_begun c.stored) c.ended (usable c.ended c.bytes) earlier.client earlier.server
 
+-- The link is to be cut in the place of the client's frame of this number: the client has sent fewer frames, and is cut only in that
+-- place; the server is cut only where the client is.
+pub record MayBeCut (number : ℕ) (limits : Limits) (client server : List Event) : Type 0 where
+  pub few : frames_sent client < number
+  pub place : is_cut client ≡ true → IsCutInPlace limits number client
+  pub follows : is_cut server ≡ true → is_cut client ≡ true
+
+-- where no cut was asked for neither end is cut
+abbrev pub AreCutAsAsked : Option ℕ → Limits → List Event → List Event → Type 0
+AreCutAsAsked None limits client server = (is_cut client ≡ false) × (is_cut server ≡ false)
+AreCutAsAsked (Some number) limits client server = MayBeCut number limits client server
+
+abbrev pub CutsAsAsked : CopyOptions → List Event → List Event → Type 0
+CutsAsAsked o client server = AreCutAsAsked o.cut o.limits client server
+
 -- what holds of a copy however it ends
 pub record IsSoundCourse (o : CopyOptions) (c : Course) : Type 0 where
   -- both ends follow their rules, no frame was refused, and each took what the other sent, in order; the credits of each
   -- direction balance; and the two histories fit into one order of time
   pub joint : AreJoint o.limits o.limits c.client c.server
-  -- neither end is cut: a cut can't be asked for
-  pub client_uncut : is_cut c.client ≡ false
-  pub server_uncut : is_cut c.server ≡ false
+  -- the client cuts the link in the place of the frame that was asked for, and nowhere else
+  pub cuts : CutsAsAsked o c.client c.server
   -- no end sends without a receive that its peer has posted, or holds more credits than its peer posts receives, and the
   -- credits never all vanish
   pub credits : AreBalanced o.limits o.limits c.client c.server
@@ -150,6 +167,16 @@ IsLogged c = IsLog (deeds_of c) c.text
 abbrev pub IsLogCut : Course → Type 0
 IsLogCut c = BeginsLog (deeds_of c) c.text
 
+-- the client has not cut the link
+abbrev pub IsUncut : Course → Type 0
+IsUncut c = is_cut c.client ≡ false
+
+-- the client has cut the link in the place of the frame that was asked for
+pub record HasCutLink (o : CopyOptions) (c : Course) : Type 0 where
+  pub number : ℕ
+  pub asked : o.cut ≡ Some number
+  pub place : IsCutInPlace o.limits number c.client
+
 -- nothing is missing: the source was read to its end, the sink got just its bytes, and END's reply was taken
 pub record IsWholeCourse (o : CopyOptions) (c : Course) : Type 0 where
   pub logged : IsLogged c
@@ -158,16 +185,17 @@ pub record IsWholeCourse (o : CopyOptions) (c : Course) : Type 0 where
   pub stored : c.stored ≡ c.bytes
   pub answered : messages_delivered Client o.limits c.client ≡ reply_messages o.kind o.channel o.limits.pages true c.bytes
 
--- When each status comes, and what it leaves. Where the source failed, or had too much, its end was not seen.
+-- When each status comes, and what it leaves. Where the source failed, or had too much, its end was not seen. `Cut` comes where the client
+-- has cut the link and neither log nor sink failed then: with `Done`, `ReadFault` and `TooLong` it has not.
 abbrev pub Ends : Status → CopyOptions → Stream → Stream → Stream → Course → Type 0
-Ends Done o source sink log c = IsWholeCourse o c × IsAtEnd source.now
-Ends ReadFault o source sink log c = IsLogged c × IsShort c × StoresGroups c × Rose source.faults_before source.faults × (c.ended ≡ false)
+Ends Done o source sink log c = IsWholeCourse o c × IsAtEnd source.now × IsUncut c
+Ends ReadFault o source sink log c = IsLogged c × IsShort c × StoresGroups c × Rose source.faults_before source.faults × (c.ended ≡ false) × IsUncut c
 Ends WriteFault o source sink log c = IsLogged c × IsShort c × Rose sink.faults_before sink.faults
 Ends LogFault o source sink log c = IsLogCut c × IsShort c × StoresGroups c × Rose log.faults_before log.faults
-Ends TooLong o source sink log c = IsLogged c × (most_bytes < length c.bytes) × StoresGroups c × (c.ended ≡ false)
+Ends TooLong o source sink log c = IsLogged c × (most_bytes < length c.bytes) × StoresGroups c × (c.ended ≡ false) × IsUncut c
+Ends Cut o source sink log c = IsLogged c × IsShort c × StoresGroups c × HasCutLink o c
 Ends NoMemory o source sink log c = IsLogCut c × IsShort c × StoresGroups c
 Ends Usage o source sink log c = ⊥
-Ends Cut o source sink log c = ⊥
 Ends (BadInput line) o source sink log c = ⊥
 
 -- The promise: the log tells histories of both ends and lists of their workers that fit together; each end delivers a front of what its

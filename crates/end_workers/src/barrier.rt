@@ -3,7 +3,7 @@
 ghost use Rattle.std.specs.Prelude.{◌≡◌, false, true, IfErr, IfOk, OnOk};
 ghost use Rattle.copy_parts.specs.declared.options.CopyOptions.{CopyOptions as Options};
 ghost use Rattle.end_workers.specs.Barriers.{Settles, HasEnded};
-ghost use Rattle.end_workers.specs.Progress.{GoesOn, IsAfterBarrier, IsGoing, IsHandedAll, IsReadAll, IsSettled, moved};
+ghost use Rattle.end_workers.specs.Progress.{GoesOn, IsAfterBarrier, IsGoing, IsHandedAll, IsReadAll, IsSettled, IsStoredAll, StaysUncut, moved};
 ghost use Rattle.end_workers.specs.Promise.{KeepsPromise, Stream};
 
 use crate::copy::Copy;
@@ -23,8 +23,9 @@ pub enum Barrier {
 }
 
 impl Copy {
-    /// Hands all completions to their machines, tells the log what happened since the last barrier, writes the groups that came to the
-    /// sink, reads the source until no machine wants bytes, and gives all jobs that are due. The first fault ends the copy.
+    /// Hands all completions to their machines, tells the log what happened since the last barrier, and writes the groups that came to the
+    /// sink. Where the client has cut the link, the copy is over then. Else the source is read until no machine wants bytes, and all jobs
+    /// that are due are given. The first fault ends the copy.
     pub fn barrier<S: Source, K: Sink, L: Sink>(
         &mut self,
         source: &mut S,
@@ -67,6 +68,7 @@ impl Copy {
         self.hand();
         self.tell(log)?;
         self.store(sink)?;
+        self.stop_if_cut()?;
         self.read(source)?;
         self.give()?;
         Ok(self.parts.finished())
@@ -107,6 +109,17 @@ impl Copy {
         self.client_told = news.client_told;
         self.server_told = news.server_told;
         self.parts.clear_lines();
+        Ok(())
+    }
+
+    /// Stops the copy where its client has cut the link.
+    fn stop_if_cut(&self) -> Result<(), Status>
+        ensures goes_on { (o : Options) (from to log : Stream) → IsStoredAll o from to log self.now → OnOk result (StaysUncut o from to log self.now) }
+        ensures stops { (o : Options) (from to log : Stream) → IsStoredAll o from to log self.now → IfErr result (λ status. KeepsPromise status o from to log) }
+    {
+        if self.parts.is_cut() {
+            return Err(Status::Cut);
+        }
         Ok(())
     }
 

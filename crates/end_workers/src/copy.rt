@@ -1,6 +1,6 @@
 //! A copy.
 
-ghost use Rattle.std.specs.Prelude.{◌≡◌, ◌≤◌, None, length, reverse, IfOk, OnErr};
+ghost use Rattle.std.specs.Prelude.{◌≡◌, ◌≤◌, length, reverse, IfOk, OnErr};
 ghost use Rattle.smbd_base.specs.History.{messages_submitted};
 ghost use Rattle.copy_parts.specs.Options.{AreLawful};
 ghost use Rattle.smbd_outside.specs.declared.status.Status.TheVariants as statuses;
@@ -39,10 +39,9 @@ pub struct CopyReport {
 }
 
 impl Copy {
-    /// A copy of which nothing was read, written or told: both its ends have posted their receives. No copy is cut yet.
+    /// A copy of which nothing was read, written or told: both its ends have posted their receives.
     pub fn open(alloc: Global, options: &CopyOptions) -> Result<Copy, NoMemory>
-        requires lawful { AreLawful options.now }
-        requires uncut { options.now.cut ≡ None }
+        requires { AreLawful options.now }
         ensures opened { IfOk result (IsOpened options.now) }
         ensures on { IfOk result GoesOn }
         ensures stops { (from to log : Stream) → IsUntouched from → IsUntouched to → IsUntouched log → OnErr result (KeepsPromise statuses.NoMemory options.now from to log) }

@@ -4,7 +4,7 @@ ghost use Rattle.std.specs.Prelude.{◌≡◌, ◌+◌, ◌<◌, ◌≤◌, ◌%
 ghost use Rattle.std.specs.Io.KnownBytes.{Consumes, IsAtEnd};
 ghost use Rattle.file_messages.specs.declared.layout.TheConstants.{GROUP_SIZE as group_size};
 ghost use Rattle.copy_parts.specs.declared.options.CopyOptions.{CopyOptions as Options};
-ghost use Rattle.end_workers.specs.Progress.{GoesOn, IsReadAll, IsStoredAll, IsWanted, StopsReading, bytes_left, moved};
+ghost use Rattle.end_workers.specs.Progress.{GoesOn, IsReadAll, IsWanted, StaysUncut, StopsReading, bytes_left, moved};
 ghost use Rattle.end_workers.specs.Promise.{KeepsPromise, Stream};
 ghost use Rattle.end_workers.specs.Sizes.{most_bytes};
 
@@ -47,9 +47,9 @@ impl Copy {
     pub(crate) fn read<S: Source>(&mut self, source: &mut S) -> Result<(), Status>
         requires { GoesOn self.old }
         ensures on { OnOk result (GoesOn self.new) }
-        ensures reads { (o : Options) (from to log : Stream) → from.now ≡ S.left source.old → from.faults ≡ S.faults source.old → IsStoredAll o from to log self.old
+        ensures reads { (o : Options) (from to log : Stream) → from.now ≡ S.left source.old → from.faults ≡ S.faults source.old → StaysUncut o from to log self.old
             → OnOk result (IsReadAll o (moved from (S.left source.new) (S.faults source.new)) to log self.new) }
-        ensures stops { (o : Options) (from to log : Stream) → from.now ≡ S.left source.old → from.faults ≡ S.faults source.old → IsStoredAll o from to log self.old
+        ensures stops { (o : Options) (from to log : Stream) → from.now ≡ S.left source.old → from.faults ≡ S.faults source.old → StaysUncut o from to log self.old
             → IfErr result (λ status. KeepsPromise status o (moved from (S.left source.new) (S.faults source.new)) to log) }
     {
         while self.parts.wants_bytes(self.options.kind) {
@@ -63,9 +63,9 @@ impl Copy {
         requires on { GoesOn self.old }
         requires wanted { IsWanted self.old }
         ensures on { OnOk result (GoesOn self.new) }
-        ensures reads { (o : Options) (from to log : Stream) → from.now ≡ S.left source.old → from.faults ≡ S.faults source.old → IsStoredAll o from to log self.old
-            → OnOk result (IsStoredAll o (moved from (S.left source.new) (S.faults source.new)) to log self.new) }
-        ensures stops { (o : Options) (from to log : Stream) → from.now ≡ S.left source.old → from.faults ≡ S.faults source.old → IsStoredAll o from to log self.old
+        ensures reads { (o : Options) (from to log : Stream) → from.now ≡ S.left source.old → from.faults ≡ S.faults source.old → StaysUncut o from to log self.old
+            → OnOk result (StaysUncut o (moved from (S.left source.new) (S.faults source.new)) to log self.new) }
+        ensures stops { (o : Options) (from to log : Stream) → from.now ≡ S.left source.old → from.faults ≡ S.faults source.old → StaysUncut o from to log self.old
             → IfErr result (λ status. KeepsPromise status o (moved from (S.left source.new) (S.faults source.new)) to log) }
         ensures fewer { OnOk result (bytes_left self.new < bytes_left self.old) }
     {

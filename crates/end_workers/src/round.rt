@@ -3,6 +3,7 @@
 ghost use Rattle.std.specs.Prelude.{OnErr, OnOk};
 ghost use Rattle.smbd_outside.specs.declared.status.Status.TheVariants as statuses;
 ghost use Rattle.copy_laws.specs.Coupled.{Pasts};
+ghost use Rattle.copy_ends.specs.Turns.{IsUp};
 ghost use Rattle.copy_parts.specs.declared.options.CopyOptions.{CopyOptions as Options};
 ghost use Rattle.copy_parts.specs.Copies.{Stands};
 ghost use Rattle.copy_parts.specs.Steps.{HasRun};
@@ -13,9 +14,11 @@ use crate::copy::Copy;
 use smbd_base::NoMemory;
 
 impl Copy {
-    /// Both ends and all workers do their share: an end at most 64 events, and a worker at most 16 jobs. Without memory the copy is over.
+    /// Both ends and all workers do their share: an end at most 64 events, and a worker at most 16 jobs. Where the client comes to the frame
+    /// in whose place the link is to be cut, it cuts the link, and the next barrier ends the copy. Without memory the copy is over.
     pub fn round(&mut self) -> Result<(), NoMemory>
-        requires { GoesOn self.old }
+        requires on { GoesOn self.old }
+        requires up { IsUp self.old.parts.world }
         ensures on { OnOk result (GoesOn self.new) }
         ensures ran { (o : Options) (p : Pasts) → Stands o p self.old.parts → OnOk result (HasRun o p self.old.parts self.new.parts) }
         ensures runs { (o : Options) (from to log : Stream) → IsSettled o from to log self.old → OnOk result (IsGoing o from to log self.new) }

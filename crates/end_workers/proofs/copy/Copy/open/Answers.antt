@@ -5,11 +5,11 @@ use Rattle.end_workers.proofs.copy.Copy.open.Goals as goal
 
 pub returns-in_err-group-clause-stops : goal.returns-in_err-group-clause-stops
 returns-in_err-group-clause-stops c = λ from to log reads writes logs.
-    unopened c.from_residual.result c.args.options.now from to log c.requires.lawful c.credits-credits.ensures.lawful reads writes logs
+    unopened c.from_residual.result c.args.options.now from to log c.requires c.credits-credits.ensures.lawful reads writes logs
 
 pub returns-in_err-open-clause-stops : goal.returns-in_err-open-clause-stops
 returns-in_err-open-clause-stops c = λ from to log reads writes logs.
-    unopened c.from_residual-in_err-open.result c.args.options.now from to log c.requires.lawful c.credits-credits.ensures.lawful reads writes logs
+    unopened c.from_residual-in_err-open.result c.args.options.now from to log c.requires c.credits-credits.ensures.lawful reads writes logs
 
 pub returns-clause-opened : goal.returns-clause-opened
 returns-clause-opened c =

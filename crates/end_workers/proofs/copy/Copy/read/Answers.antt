@@ -1,6 +1,6 @@
 use Rattle.std.proofs.Common.{refl}
 use Rattle.smbd_outside.specs.declared.status.Status.{Status}
-use Rattle.end_workers.specs.Progress.{IsStoredAll, moved}
+use Rattle.end_workers.specs.Progress.{StaysUncut, moved}
 use Rattle.end_workers.specs.Promise.{Stream, KeepsPromise}
 use Rattle.end_workers.proofs.HandedOn.{handed-on}
 use Rattle.end_workers.proofs.LogsStopping.{not-moved}
@@ -12,7 +12,7 @@ pub loop-self-init : goal.loop-self-init
 loop-self-init g c = record {
   on = c.requires;
   stored = λ o from to log was count s.
-      not-moved (λ (x : Stream). IsStoredAll o x to log c.args.self.now) from (g.S.Source.left c.args.source.now) (g.S.Source.faults c.args.source.now) was count s;
+      not-moved (λ (x : Stream). StaysUncut o x to log c.args.self.now) from (g.S.Source.left c.args.source.now) (g.S.Source.faults c.args.source.now) was count s;
 }
 
 pub wants_bytes-requires : goal.wants_bytes-requires
