@@ -1,6 +1,5 @@
 -- The credits of each direction balance.
-use Rattle.std.proofs.Common.{◌≡◌, ℕ, ◌+◌, ◌≤◌, Bool, false, min, cond, List, ◌∷◌, length, refl, ap, subst, arith}
-use Rattle.std.proofs.lemmas.List.{length-append}
+use Rattle.std.proofs.Common.{◌≡◌, ℕ, ◌+◌, ◌≤◌, Bool, false, min, cond, List, ◌∷◌, refl, ap, subst, arith}
 use mathlib.Core.List.{IsPrefix}
 use Rattle.smbd_base.specs.declared.end_id.EndId.{EndId}
 use Rattle.smbd_base.specs.declared.end_id.EndId.TheVariants.{Client, Server}
@@ -11,21 +10,15 @@ use Rattle.smbd_base.specs.Balance.{IsBalanced}
 use Rattle.smbd_base.specs.Grant.{credits_in}
 use Rattle.smbd_base.specs.Counts.{peer_of, frames_sent, frames_taken, credits_granted, credits_earned, credits_held, is_unheard, is_out_of_turn}
 use Rattle.smbd_base.specs.Joint.{AreAccounted, emitted_frames, taken_frames}
-use Rattle.smbd_base.proofs.Counting.{sent_is, taken_most, grants_in, grants_in-front, granted_is, earned_most}
-
--- an end holds just what it has earned and not spent
-pub record HoldsEarned (side : EndId) (past : List Event) : Type 0 where
-  pub all : credits_held side past + frames_sent past ≡ credits_earned side past
+use Rattle.smbd_base.proofs.Counting.{taken_most, grants_in, grants_in-front, granted_is, earned_most}
+use Rattle.joint_laws.specs.Halves.{HoldsEarned}
+use Rattle.joint_laws.proofs.Ordering.{taken_sent}
 
 pub peer-peer : (side : EndId) → peer_of (peer_of side) ≡ side
 peer-peer Client = refl
 peer-peer Server = refl
 
 -- ---- where the ends took the first of the frames that were sent
-
-pub taken_sent : (own peer : List Event) → IsPrefix (taken_frames own) (emitted_frames peer) → length (taken_frames own) ≤ frames_sent peer
-taken_sent own peer front =
-    omega (arith, sent_is peer, ap (λ (fs : List (List ℕ)). length fs) front.1, length-append (taken_frames own) front.0)
 
 -- an end earned no more than its peer granted
 pub earned_granted : (side : EndId) (own peer : List Event) → IsPrefix (taken_frames own) (emitted_frames peer)

@@ -14,10 +14,11 @@ use Rattle.smbd_base.proofs.BalanceLemmas.{balanced, holds_one}
 use Rattle.smbd_base.proofs.Inversion.{emits, posts}
 use Rattle.joint_laws.specs.Credits.{AreBalanced}
 use Rattle.joint_laws.specs.Receives.{posted_before_sending, IsOpened, MeetReceives}
-use Rattle.joint_laws.proofs.Accounts.{peer-peer, taken_sent}
+use Rattle.joint_laws.specs.Halves.{AreBeside}
+use Rattle.joint_laws.proofs.Accounts.{peer-peer}
 use Rattle.smbd_base.proofs.Counting.{sent_is, grants_in, granted_is, earned_most}
-use Rattle.joint_laws.proofs.Growing.{IsBeside, client_beside, turned}
-use Rattle.joint_laws.proofs.Ordering.{taken_before_most}
+use Rattle.joint_laws.proofs.Growing.{client_beside, turned}
+use Rattle.joint_laws.proofs.Ordering.{taken_sent, taken_before_most}
 
 -- ---- the opening
 
@@ -88,16 +89,16 @@ posted_for side limits (Cut ∷ past) number lawful legal one most = posted_for 
 -- ---- of two ends
 
 module _ (side : EndId) (own_limits peer_limits : Limits) (own peer : List Event) (lawful : IsLawful own_limits) (lawful' : IsLawful peer_limits)
-    (h : IsBeside side own_limits peer_limits own peer) where
+    (h : AreBeside side own_limits peer_limits own peer) where
   -- the frames that the peer had taken are the first ones that the end sent
   granted_then : (number : ℕ) → 1 ≤ number → number ≤ frames_sent peer → number ≤ 1 + grants_in side (take (taken_before_sending number peer) (emitted_frames own))
   granted_then number one most =
       let same : take (taken_before_sending number peer) (emitted_frames own) ≡ take (taken_before_sending number peer) (taken_frames peer) =
-      ap (λ (fs : List (List ℕ)). take (taken_before_sending number peer) fs) (sym h.to_peer.1)
-      ∙ take-append-le (taken_before_sending number peer) (taken_frames peer) h.to_peer.0 (taken_before_most number peer) in
+      ap (λ (fs : List (List ℕ)). take (taken_before_sending number peer) fs) (sym h.there.in_time.front.1)
+      ∙ take-append-le (taken_before_sending number peer) (taken_frames peer) h.there.in_time.front.0 (taken_before_most number peer) in
       let there : number ≤ 1 + grants_in side (take (taken_before_sending number peer) (taken_frames peer)) =
       subst (λ (x : EndId). number ≤ 1 + grants_in x (take (taken_before_sending number peer) (taken_frames peer))) (peer-peer side)
-      (sent_with (peer_of side) peer_limits peer number lawful' h.peer_legal one most) in
+      (sent_with (peer_of side) peer_limits peer number lawful' h.there.legal one most) in
       subst (λ (fs : List (List ℕ)). number ≤ 1 + grants_in side fs) (sym same) there
 
   grants_none : (n : ℕ) (number : ℕ) (frames : List (List ℕ)) → 2 ≤ number → number ≤ 1 + grants_in side (take n frames) → 1 ≤ n
@@ -109,11 +110,11 @@ module _ (side : EndId) (own_limits peer_limits : Limits) (own peer : List Event
 
   pub meet : MeetReceives own_limits own peer
   meet = record {
-    opened = opened side own_limits own h.own_legal h.own_opened;
+    opened = opened side own_limits own h.here.legal h.here.opened;
     heard = heard_before;
     posted = λ number two most.
-        (let within : taken_before_sending number peer ≤ frames_sent own = omega (arith, taken_before_most number peer, taken_sent peer own h.to_peer) in
-        let posted = posted_for side own_limits own (taken_before_sending number peer) lawful h.own_legal (heard_before number two most) within in
+        (let within : taken_before_sending number peer ≤ frames_sent own = omega (arith, taken_before_most number peer, taken_sent peer own h.there.in_time.front) in
+        let posted = posted_for side own_limits own (taken_before_sending number peer) lawful h.here.legal (heard_before number two most) within in
         let granted = granted_then number (omega arith) most in
         omega arith);
   }
@@ -138,9 +139,9 @@ balances client_limits server_limits client server lawful lawful' j =
     let c = j.client_credits in
     let s = j.server_credits in
     record {
-      to_server = omega (arith, s.grants, s.granted, h.own_holds.all);
-      to_client = omega (arith, c.grants, c.granted, h.peer_holds.all);
+      to_server = omega (arith, s.grants, s.granted, h.here.holds.all);
+      to_client = omega (arith, c.grants, c.granted, h.there.holds.all);
       of_client = omega (arith, s.sum, s.most);
       of_server = omega (arith, c.sum, c.most);
-      left = omega (arith, s.grants, c.grants, h.own_holds.all, h.peer_holds.all, h.left);
+      left = omega (arith, s.grants, c.grants, h.here.holds.all, h.there.holds.all, h.left);
     }

@@ -1,5 +1,5 @@
 -- Who has spoken, and what a past says in which no frame was refused.
-use Rattle.std.proofs.Common.{◌≡◌, inl, inr, ℕ, ◌+◌, nat_lt, Bool, true, false, ◌&&◌, cond, List, [], ◌∷◌, ◌++◌, length, Option, None, Some, is_some, refl, ap, sym, ◌∙◌, arith}
+use Rattle.std.proofs.Common.{◌≡◌, ℕ, ◌+◌, nat_lt, Bool, true, false, ◌&&◌, cond, List, [], ◌∷◌, ◌++◌, length, Option, None, Some, is_some, refl, ap, sym, ◌∙◌, arith}
 use Rattle.std.proofs.lemmas.List.{length-append}
 use mathlib.Core.List.{IsPrefix}
 use Rattle.smbd_base.specs.declared.end_id.EndId.{EndId}
@@ -14,10 +14,10 @@ use Rattle.smbd_base.specs.Limits.{Limits}
 use Rattle.smbd_base.specs.NegotiateMessages.{request_fields, request_fault, fault_in_request, IsLawfulRequest}
 use Rattle.smbd_base.specs.DataFrame.{data_frame_of}
 use Rattle.smbd_base.specs.Counts.{frames_taken, is_silent, is_unheard, is_out_of_turn}
-use Rattle.smbd_base.specs.History.{take_fault, fault_expecting, negotiate_fault, data_fault, bytes_expected, peer_negotiation, is_agreed, is_welcomed, is_version_fault, is_server, is_version_refused, IsLegal}
+use Rattle.smbd_base.specs.History.{take_fault, fault_expecting, negotiate_fault, data_fault, bytes_expected, peer_negotiation, is_version_fault, is_server, is_version_refused, IsLegal}
 use Rattle.smbd_base.specs.Joint.{AreAccepted, emitted_frames, taken_frames}
 use Rattle.smbd_base.proofs.Hearing.{spoken_heard}
-use Rattle.smbd_base.proofs.Inversion.{emits, both, from_not, in_turn}
+use Rattle.smbd_base.proofs.Inversion.{in_turn}
 use Rattle.smbd_base.proofs.NegotiationLaws.{lawful_request}
 use Rattle.smbd_base.proofs.Counting.{is_empty, silent_is, unheard_is}
 

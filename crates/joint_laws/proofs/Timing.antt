@@ -10,22 +10,20 @@ use Rattle.smbd_base.specs.declared.event.Event.{Event}
 use Rattle.smbd_base.specs.declared.event.Event.TheVariants.{Post, Submit, Emit, Take, Cut}
 use Rattle.smbd_base.specs.Limits.{Limits}
 use Rattle.smbd_base.specs.Counts.{peer_of, frames_sent}
-use Rattle.smbd_base.specs.Joint.{taken_frames, emitted_frames, taken_before_sending, sent_before_taking, IsAfter, AreJoint}
+use Rattle.smbd_base.specs.Joint.{taken_frames, emitted_frames, taken_before_sending, sent_before_taking, AreJoint}
 use Rattle.joint_laws.specs.OrderOfTime.{Happened, with_event, events_at, WasSent, TakesStandAfterEmits, IsOneOrder, HaveOneOrder, AreInTime}
-use Rattle.joint_laws.proofs.Accounts.{peer-peer, taken_sent}
 use Rattle.smbd_base.proofs.Counting.{sent_is}
-use Rattle.joint_laws.proofs.Growing.{IsPrefix-longer}
-use Rattle.joint_laws.proofs.Ordering.{after_take, after_emit}
+use Rattle.joint_laws.specs.Halves.{IsInTime}
+use Rattle.joint_laws.proofs.Accounts.{peer-peer}
+use Rattle.joint_laws.proofs.Ordering.{taken_sent, time-posts_own, time-submits_own, time-emits_own, time-takes_own, time-cuts_own, time-posts_peer, time-submits_peer, time-emits_peer, time-takes_peer, time-cuts_peer}
 
--- the same of one end and its peer
+-- of an end and its peer
 record IsTimed (own peer : List Event) : Type 0 where
-  to_own : IsPrefix (taken_frames own) (emitted_frames peer)
-  to_peer : IsPrefix (taken_frames peer) (emitted_frames own)
-  own_after : IsAfter own peer
-  peer_after : IsAfter peer own
+  here : IsInTime own peer
+  there : IsInTime peer own
 
 turn : (own peer : List Event) → IsTimed own peer → IsTimed peer own
-turn own peer h = record { to_own = h.to_peer; to_peer = h.to_own; own_after = h.peer_after; peer_after = h.own_after }
+turn own peer h = record { here = h.there; there = h.here }
 
 -- ---- the newest event
 
@@ -69,35 +67,45 @@ record CanBeLast (event : Event) (own peer : List Event) : Type 0 where
 
 last_post : (n : ℕ) (own peer : List Event) → IsTimed (Post n ∷ own) peer → CanBeLast (Post n) own peer
 last_post n own peer h = record {
-  before = record { to_own = h.to_own; to_peer = h.to_peer; own_after = record { each = h.own_after.each }; peer_after = record { each = h.peer_after.each } };
+  before = record {
+    here = record { front = h.here.front; after = record { each = h.here.after.each } };
+    there = record { front = h.there.front; after = record { each = h.there.after.each } };
+  };
   sent = tt;
 }
 
 last_submit : (m : List ℕ) (own peer : List Event) → IsTimed (Submit m ∷ own) peer → CanBeLast (Submit m) own peer
 last_submit m own peer h = record {
-  before = record { to_own = h.to_own; to_peer = h.to_peer; own_after = record { each = h.own_after.each }; peer_after = record { each = h.peer_after.each } };
+  before = record {
+    here = record { front = h.here.front; after = record { each = h.here.after.each } };
+    there = record { front = h.there.front; after = record { each = h.there.after.each } };
+  };
   sent = tt;
 }
 
 last_cut : (own peer : List Event) → IsTimed (Cut ∷ own) peer → CanBeLast Cut own peer
 last_cut own peer h = record {
-  before = record { to_own = h.to_own; to_peer = h.to_peer; own_after = record { each = h.own_after.each }; peer_after = record { each = h.peer_after.each } };
+  before = record {
+    here = record { front = h.here.front; after = record { each = h.here.after.each } };
+    there = record { front = h.there.front; after = record { each = h.there.after.each } };
+  };
   sent = tt;
 }
 
 last_take : (f : List ℕ) (own peer : List Event) → IsTimed (Take f ∷ own) peer → CanBeLast (Take f) own peer
 last_take f own peer h = record {
   before = record {
-    to_own = (f ∷ h.to_own.0, sym (append_assoc (taken_frames own) (f ∷ []) h.to_own.0) ∙ h.to_own.1);
-    to_peer = h.to_peer;
-    own_after = record { each = each };
-    peer_after = record { each = h.peer_after.each };
+    here = record {
+      front = (f ∷ h.here.front.0, sym (append_assoc (taken_frames own) (f ∷ []) h.here.front.0) ∙ h.here.front.1);
+      after = record { each = each };
+    };
+    there = record { front = h.there.front; after = record { each = h.there.after.each } };
   };
-  sent = record { later = h.to_own.0; sent = sym h.to_own.1 ∙ append_assoc (taken_frames own) (f ∷ []) h.to_own.0 };
+  sent = record { later = h.here.front.0; sent = sym h.here.front.1 ∙ append_assoc (taken_frames own) (f ∷ []) h.here.front.0 };
 } where
   each : (number : ℕ) → 1 ≤ number → number ≤ length (taken_frames own) → taken_before_sending number peer ≤ sent_before_taking number own
   each number one most =
-      let here = h.own_after.each number one (omega (arith, most, length-append (taken_frames own) (f ∷ []))) in
+      let here = h.here.after.each number one (omega (arith, most, length-append (taken_frames own) (f ∷ []))) in
       let same = by_earlier (length (taken_frames own)) number (length (taken_frames own) + 1 == number) (frames_sent own) (sent_before_taking number own) refl most in
       subst (λ (n : ℕ). taken_before_sending number peer ≤ n) same here
 
@@ -105,16 +113,17 @@ last_take f own peer h = record {
 last_emit : (f : List ℕ) (own peer : List Event) → length (taken_frames peer) ≤ frames_sent own → IsTimed (Emit f ∷ own) peer → CanBeLast (Emit f) own peer
 last_emit f own peer untaken h = record {
   before = record {
-    to_own = h.to_own;
-    to_peer = shorter_front (taken_frames peer) (emitted_frames own) f h.to_peer.0 h.to_peer.1 (omega (arith, untaken, sent_is own));
-    own_after = record { each = h.own_after.each };
-    peer_after = record { each = each };
+    here = record { front = h.here.front; after = record { each = h.here.after.each } };
+    there = record {
+      front = shorter_front (taken_frames peer) (emitted_frames own) f h.there.front.0 h.there.front.1 (omega (arith, untaken, sent_is own));
+      after = record { each = each };
+    };
   };
   sent = tt;
 } where
   each : (number : ℕ) → 1 ≤ number → number ≤ length (taken_frames peer) → taken_before_sending number own ≤ sent_before_taking number peer
   each number one most =
-      let here = h.peer_after.each number one most in
+      let here = h.there.after.each number one most in
       let same = by_earlier (frames_sent own) number (frames_sent own + 1 == number) (length (taken_frames own)) (taken_before_sending number own) refl (omega (arith, most, untaken)) in
       subst (λ (n : ℕ). n ≤ sent_before_taking number peer) same here
 
@@ -140,7 +149,7 @@ both_taken : (f g : List ℕ) (own peer : List Event) → frames_sent own < leng
     → IsTimed (Emit f ∷ own) (Emit g ∷ peer) → ⊥
 both_taken f g own peer here there h =
     let crossed : cond (frames_sent peer + 1 == frames_sent peer + 1) (length (taken_frames peer)) (taken_before_sending (frames_sent peer + 1) peer)
-    ≤ sent_before_taking (frames_sent peer + 1) own = h.own_after.each (frames_sent peer + 1) (omega arith) (omega (arith, there)) in
+    ≤ sent_before_taking (frames_sent peer + 1) own = h.here.after.each (frames_sent peer + 1) (omega arith) (omega (arith, there)) in
     omega (arith, here, crossed, at_number (frames_sent peer) (length (taken_frames peer)) (taken_before_sending (frames_sent peer + 1) peer), sent_before_most (frames_sent peer + 1) own)
 
 -- an event of one of the ends that can come last, where there are events
@@ -237,30 +246,18 @@ timed (suc n) side own peer short h = elim (pick own peer h (newest own peer h) 
 pub one_order : (client_limits server_limits : Limits) (client server : List Event) → AreJoint client_limits server_limits client server → HaveOneOrder client server
 one_order client_limits server_limits client server j =
     let t = timed (length client + length server) Client client server (omega arith)
-    (record { to_own = j.linked.to_client; to_peer = j.linked.to_server; own_after = j.client_after; peer_after = j.server_after }) in
+    (record { here = record { front = j.linked.to_client; after = j.client_after }; there = record { front = j.linked.to_server; after = j.server_after } }) in
     (t.order, record { of_client = t.of_own; of_server = t.of_peer; sent_first = t.sent_first })
 
 -- ---- the other way round
 
 grown : (event : Event) (own peer : List Event) → WasSent event own peer → IsTimed own peer → IsTimed (event ∷ own) peer
-grown (Post n) own peer sent h =
-    record { to_own = h.to_own; to_peer = h.to_peer; own_after = record { each = h.own_after.each }; peer_after = record { each = h.peer_after.each } }
-grown (Submit m) own peer sent h =
-    record { to_own = h.to_own; to_peer = h.to_peer; own_after = record { each = h.own_after.each }; peer_after = record { each = h.peer_after.each } }
-grown (Emit f) own peer sent h = record {
-  to_own = h.to_own;
-  to_peer = IsPrefix-longer (taken_frames peer) (emitted_frames own) (f ∷ []) h.to_peer;
-  own_after = record { each = h.own_after.each };
-  peer_after = after_emit peer own f (taken_sent peer own h.to_peer) h.peer_after;
-}
-grown (Take f) own peer sent h = record {
-  to_own = (sent.later, append_assoc (taken_frames own) (f ∷ []) sent.later ∙ sym sent.sent);
-  to_peer = h.to_peer;
-  own_after = after_take own peer f (taken_sent peer own h.to_peer) h.own_after;
-  peer_after = record { each = h.peer_after.each };
-}
-grown Cut own peer sent h =
-    record { to_own = h.to_own; to_peer = h.to_peer; own_after = record { each = h.own_after.each }; peer_after = record { each = h.peer_after.each } }
+grown (Post n) own peer sent h = record { here = time-posts_own own peer h.here n; there = time-posts_peer peer own h.there n }
+grown (Submit m) own peer sent h = record { here = time-submits_own own peer h.here m; there = time-submits_peer peer own h.there m }
+grown (Emit f) own peer sent h = record { here = time-emits_own own peer h.here f; there = time-emits_peer peer own h.there f }
+grown (Take f) own peer sent h =
+    record { here = time-takes_own own peer h.here f sent (taken_sent peer own h.there.front); there = time-takes_peer peer own h.there f }
+grown Cut own peer sent h = record { here = time-cuts_own own peer h.here; there = time-cuts_peer peer own h.there }
 
 grown_at : (end : EndId) (event : Event) (earlier : List Happened) → WasSent event (events_at end earlier) (events_at (peer_of end) earlier)
     → IsTimed (events_at Client earlier) (events_at Server earlier)
@@ -271,13 +268,13 @@ grown_at Server event earlier sent h =
     (grown event (events_at Server earlier) (events_at Client earlier) sent (turn (events_at Client earlier) (events_at Server earlier) h))
 
 ordered : (order : List Happened) → TakesStandAfterEmits order → IsTimed (events_at Client order) (events_at Server order)
-ordered [] sent = record { to_own = ([], refl); to_peer = ([], refl); own_after = none_taken; peer_after = none_taken } where
-  none_taken : IsAfter [] []
-  none_taken = record { each = λ number one most. absurd (let b : ⊥ = omega arith in b) }
+ordered [] sent = record { here = none_taken; there = none_taken } where
+  none_taken : IsInTime [] []
+  none_taken = record { front = ([], refl); after = record { each = λ number one most. absurd (let b : ⊥ = omega arith in b) } }
 ordered (h ∷ earlier) sent = grown_at h.end h.event earlier sent.0 (ordered earlier sent.1)
 
 pub in_time : (client server : List Event) (order : List Happened) → IsOneOrder client server order → AreInTime client server
 in_time client server order o =
     let h = subst (λ (es : List Event). IsTimed es server) o.of_client
     (subst (λ (es : List Event). IsTimed (events_at Client order) es) o.of_server (ordered order o.sent_first)) in
-    record { to_client = h.to_own; to_server = h.to_peer; client_after = h.own_after; server_after = h.peer_after }
+    record { to_client = h.here.front; to_server = h.there.front; client_after = h.here.after; server_after = h.there.after }

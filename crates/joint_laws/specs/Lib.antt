@@ -1,4 +1,5 @@
 pub mod Growth
+pub mod Halves
 pub mod Credits
 pub mod Receives
 pub mod OrderOfTime

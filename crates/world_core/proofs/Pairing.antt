@@ -12,7 +12,8 @@ use Rattle.smbd_base.specs.Delivery.{messages_delivered, message_brought}
 use Rattle.smbd_base.specs.History.{next_event, submit_fault, take_fault, is_cut, is_ready, messages_submitted}
 use Rattle.smbd_base.specs.Joint.{emitted_frames, taken_frames}
 use Rattle.joint_laws.specs.Growth.{IsNextFrame, MayAdd}
-use Rattle.joint_laws.proofs.Growing.{IsBeside, grown}
+use Rattle.joint_laws.specs.Halves.{AreBeside}
+use Rattle.joint_laws.proofs.Growing.{grown}
 use Rattle.world_core.specs.declared.choice.Choice.{Choice}
 use Rattle.world_core.specs.declared.choice.Choice.TheVariants as choices
 use Rattle.world_core.specs.Linked.{Linked, driven, arrival, event_of_choice, event_at, still_arriving, frames_in, still_undelivered, messages_in, own_after, peer_after, StandsFirst, TakesNext}
@@ -26,7 +27,7 @@ pub record IsPair (own peer : Linked) : Type 0 where
   pub peer_side : peer.side ≡ peer_of own.side
   pub own_lawful : IsLawful own.limits
   pub peer_lawful : IsLawful peer.limits
-  pub beside : IsBeside own.side own.limits peer.limits own.past peer.past
+  pub beside : AreBeside own.side own.limits peer.limits own.past peer.past
   pub to_own : emitted_frames peer.past ≡ taken_frames own.past ++ own.arriving
   pub to_peer : emitted_frames own.past ≡ taken_frames peer.past ++ peer.arriving
   pub for_own : messages_submitted peer.past ≡ messages_delivered own.side own.limits own.past ++ own.undelivered
@@ -38,7 +39,7 @@ pub accepted : (own peer : Linked) (frame : List ℕ) (later : List (List ℕ)) 
 accepted own peer frame later h is =
     let sent : emitted_frames peer.past ≡ taken_frames own.past ++ frame ∷ later = h.to_own ∙ ap (λ (fs : List (List ℕ)). taken_frames own.past ++ fs) is in (
       record { later = later; sent = sent },
-      accepted_legal own.side own.limits peer.limits own.past peer.past frame later h.own_lawful h.peer_lawful h.beside.peer_legal h.beside.own_legal h.beside.to_peer sent,
+      accepted_legal own.side own.limits peer.limits own.past peer.past frame later h.own_lawful h.peer_lawful h.beside.there.legal h.beside.here.legal h.beside.there.in_time.front sent,
     )
 
 stands_by : (o : Option (List ℕ)) (messages rest : List (List ℕ)) → messages ≡ option_to_list o ++ rest → StandsFirst o messages
@@ -53,7 +54,7 @@ stands own peer frame h may =
     let earlier : List (List ℕ) = messages_delivered own.side own.limits own.past in
     let after = grown own.side own.limits peer.limits own.past peer.past (Take frame) h.own_lawful h.peer_lawful h.beside may in
     let front = delivered_both own.side own.limits peer.limits (Take frame ∷ own.past) peer.past h.own_lawful h.peer_lawful
-    after.own_legal after.peer_legal after.own_accepted after.to_own after.to_peer in
+    after.here.legal after.there.legal after.here.accepted after.here.in_time.front after.there.in_time.front in
     let all : earlier ++ (option_to_list brought ++ front.0) ≡ messages_submitted peer.past =
     sym (append_assoc earlier (option_to_list brought) front.0)
     ∙ ap (λ (ms : List (List ℕ)). ms ++ front.0) (sym (delivered-take own.side own.limits own.past frame)) ∙ front.1 in
@@ -69,7 +70,7 @@ takes_next own peer h = record {
 -- ---- the event that a choice adds
 
 cut_follows : (own peer : Linked) → IsPair own peer → is_cut own.past ≡ false → MayAdd own.side own.limits Cut own.past peer.past
-cut_follows own peer h uncut = ((uncut, h.beside.own_opened), tt)
+cut_follows own peer h uncut = ((uncut, h.beside.here.opened), tt)
 
 submission_adds : (own peer : Linked) (message : List ℕ) (fault : Option SubmitFault) (event : Event) → submit_fault own.side own.limits own.past message ≡ fault
     → cond {A = Option Event} (is_none fault) (Some (Submit message)) None ≡ Some event → MayAdd own.side own.limits event own.past peer.past

@@ -11,7 +11,8 @@ use Rattle.smbd_base.specs.Counts.{peer_of}
 use Rattle.smbd_base.specs.Delivery.{messages_delivered}
 use Rattle.smbd_base.specs.History.{messages_submitted}
 use Rattle.smbd_base.specs.Joint.{emitted_frames, taken_frames}
-use Rattle.joint_laws.proofs.Growing.{IsBeside, client_beside, turned, turned_back, joint, opened_joint}
+use Rattle.joint_laws.specs.Halves.{AreBeside}
+use Rattle.joint_laws.proofs.Growing.{client_beside, turned, turned_back, joint, opened_joint}
 use Rattle.world_core.specs.declared.choice.Choice.{Choice}
 use Rattle.world_core.specs.declared.choice.Step.{Step}
 use Rattle.world_core.specs.Choices.{end_of}
@@ -23,8 +24,8 @@ use Rattle.world_core.proofs.Pairing.{IsPair, takes_next, pair_after}
 
 -- ---- a client and a server
 
-beside_at : (x y : EndId) (own_limits peer_limits : Limits) (own peer : List Event) → x ≡ y → IsBeside x own_limits peer_limits own peer → IsBeside y own_limits peer_limits own peer
-beside_at x y own_limits peer_limits own peer is h = subst (λ (z : EndId). IsBeside z own_limits peer_limits own peer) is h
+beside_at : (x y : EndId) (own_limits peer_limits : Limits) (own peer : List Event) → x ≡ y → AreBeside x own_limits peer_limits own peer → AreBeside y own_limits peer_limits own peer
+beside_at x y own_limits peer_limits own peer is h = subst (λ (z : EndId). AreBeside z own_limits peer_limits own peer) is h
 
 client_pair : (client server : Linked) → ArePaired client server → IsPair client server
 client_pair client server h = record {
