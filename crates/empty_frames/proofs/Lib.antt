@@ -1,0 +1,4 @@
+pub mod Answering
+pub mod Bounding
+pub mod Granting
+pub mod Reading

@@ -1,0 +1,2 @@
+pub mod EmptyFrames
+pub mod WorkedEmpty
