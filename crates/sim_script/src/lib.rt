@@ -10,7 +10,7 @@
 //! | `carry` SIDE | the end takes the oldest frame in flight to it |
 //! | `cut` SIDE | the link is cut, and the end with it |
 //!
-//! Lines are ended by line feeds. The last one may lack its own.
+//! Lines are ended by line feeds. The last one may lack its own. `next_line` and `next_end` read the lines of other texts too.
 #![tactic(auto)]
 
 mod fault;
@@ -26,7 +26,9 @@ pub use fault::ScriptFault;
 pub use laws::{
     lines_end_at_line_feeds, written_lines_are_read, written_lines_differ, written_scripts_are_read,
 };
+pub use lines::next_line;
 pub use reading::read_line;
 pub use script::{first_bad_line, read_script, run_text};
 pub use script_line::ScriptLine;
+pub use word::next_end;
 pub use worked::worked_scripts;

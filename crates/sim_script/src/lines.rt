@@ -11,7 +11,7 @@ fn feed_in(text: &[u8]) -> Option<usize>
 }
 
 /// The first line, without its line feed, and the bytes after it. An empty text has no line.
-pub(crate) fn next_line(text: &[u8]) -> Option<(&[u8], &[u8])>
+pub fn next_line(text: &[u8]) -> Option<(&[u8], &[u8])>
     ensures lines { spec.lines_in text.now ≡ spec.line_and_lines result }
     ensures shorter { IfSome result (λ found. length found.1.now < length text.now) }
 {

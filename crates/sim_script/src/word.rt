@@ -43,7 +43,7 @@ pub(crate) fn word_named(name: &[u8]) -> Option<Word>
     None
 }
 
-/// The end of this name.
+/// The end of this name: `C` is the client, `S` the server.
 #[tactic(auto, unfolding(crate::specs::Scripts::end_named))]
 fn end_named(name: &[u8]) -> Option<EndId>
     ensures { result ≡ spec.end_named name.now }
@@ -57,8 +57,8 @@ fn end_named(name: &[u8]) -> Option<EndId>
     None
 }
 
-/// The end that the next part names, and the parts after it.
-pub(crate) fn next_end(rest: Option<&[u8]>) -> Option<(EndId, Option<&[u8]>)>
+/// The end that the next part names, and the parts after it. The next part is the bytes of `rest` up to the first space.
+pub fn next_end(rest: Option<&[u8]>) -> Option<(EndId, Option<&[u8]>)>
     ensures { spec.end_and_parts result ≡ spec.next_end (parts_left rest.entry) }
 {
     let (part, after) = first_part(rest?);
