@@ -1,10 +1,11 @@
 -- What the promise of a copy says where nothing fails.
-use Rattle.std.proofs.Common.{◌≡◌, ◌⊎◌, inl, inr, ℕ, ◌≤◌, Option, Some, None, List, ◌++◌, length, refl, sym, ap, ◌∙◌, subst, length-append, arith}
+use Rattle.std.proofs.Common.{◌≡◌, inl, inr, ℕ, ◌≤◌, true, is_some, Option, Some, None, List, ◌++◌, length, refl, sym, ap, ◌∙◌, subst, length-append, arith}
 use Rattle.std.proofs.lemmas.List.{append-nil}
 use Rattle.std.specs.Io.KnownBytes.{Appends, Consumes, IsAtEnd}
 use Rattle.smbd_outside.specs.declared.status.Status.{Status}
 use Rattle.smbd_outside.specs.declared.status.Status.TheVariants.{Done, Usage, ReadFault, WriteFault, LogFault, TooLong, Cut, BadInput, NoMemory}
 use Rattle.copy_parts.specs.declared.options.CopyOptions.{CopyOptions}
+use Rattle.smbd_cli.specs.Copies.{Succeeds}
 use Rattle.end_workers.specs.Promise.{Stream, KeepsPromise, IsFair, IsCopied}
 
 -- no more was read than there was
@@ -23,17 +24,21 @@ read_all (Some all) (Some left) bytes read told c at_end =
     let same : all ≡ bytes = cc in
     sym (append-nil read) ∙ ap (λ (t : List ℕ). read ++ t) (sym at_end) ∙ sym c ∙ same
 
+asked : (cut : Option ℕ) (number : ℕ) → cut ≡ Some number → is_some cut ≡ true
+asked None number e = absurd (let b : ⊥ = cc in b)
+asked (Some n) number e = refl
+
 pub completes : (status : Status) (o : CopyOptions) (source sink log : Stream) (bytes : List ℕ) → KeepsPromise status o source sink log → IsFair source sink log bytes
-    → (status ≡ Done) ⊎ (status ≡ NoMemory)
+    → Succeeds o status
 completes Done o source sink log bytes k fair = inl refl
-completes NoMemory o source sink log bytes k fair = inr refl
+completes NoMemory o source sink log bytes k fair = inr (inr refl)
 completes ReadFault o source sink log bytes k fair = absurd (fair.reads k.ends.3)
 completes WriteFault o source sink log bytes k fair = absurd (fair.writes k.ends.2)
 completes LogFault o source sink log bytes k fair = absurd (fair.logs k.ends.3)
 completes TooLong o source sink log bytes k fair =
     absurd (let most = read_most source.before source.now bytes k.course.bytes fair.told k.moves.read in let long = k.ends.1 in let short = fair.short in omega arith)
 completes Usage o source sink log bytes k fair = absurd k.ends
-completes Cut o source sink log bytes k fair = absurd k.ends
+completes Cut o source sink log bytes k fair = inr (inl (refl, asked o.cut k.ends.3.number k.ends.3.asked))
 completes (BadInput line) o source sink log bytes k fair = absurd k.ends
 
 pub copies : (status : Status) (o : CopyOptions) (source sink log : Stream) (bytes : List ℕ) → KeepsPromise status o source sink log → source.before ≡ Some bytes → status ≡ Done → IsCopied source sink bytes

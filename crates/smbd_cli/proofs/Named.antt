@@ -30,7 +30,7 @@ of-all f None all = tt
 of-all f (Some x) all = all x
 
 by-workers : (kind : CopyKind) (channel : Channel) (n : ℕ) → 1 ≤ n → n ≤ 8 → IsBuiltIfAny (Some (copy_of kind channel n))
-by-workers kind channel n some few = record { lawful = record { some = some; few = few }; uncut = refl }
+by-workers kind channel n some few = record { lawful = record { some = some; few = few; numbered = λ zeroth. cc } }
 
 by-usual : (kind : CopyKind) (channel : Channel) → IsBuiltIfAny (Some (copy_of kind channel usual_workers))
 by-usual kind channel = by-workers kind channel 4 (let z : 1 ≤ 4 = omega arith in z) (let z : 4 ≤ 8 = omega arith in z)

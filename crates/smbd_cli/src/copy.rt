@@ -1,9 +1,9 @@
 //! A copy from a source to a sink, which is told to a log.
 
-ghost use Rattle.std.specs.Prelude.{◌≡◌, ◌⊎◌, ℕ, List, Some};
+ghost use Rattle.std.specs.Prelude.{◌≡◌, ℕ, List, Some};
 ghost use Rattle.end_workers.specs.Progress.{GoesOn, IsOpened};
 ghost use Rattle.end_workers.specs.Promise.{stream_of, KeepsPromise, IsFair, IsCopied};
-ghost use Rattle.smbd_cli.specs.Copies.{IsBuilt, options_of};
+ghost use Rattle.smbd_cli.specs.Copies.{IsBuilt, Succeeds, options_of};
 
 use crate::options::CopyCommand;
 use end_workers::{Barrier, Copy, CopyOptions};
@@ -30,10 +30,10 @@ pub fn run_copy<R: Wait, S: Source, K: Sink, L: Sink>(
     ensures copied { (bytes : List ℕ) → S.left source.old ≡ Some bytes → result ≡ Status.Done →
         IsCopied (stream_of S.left S.faults source.old source.new) (stream_of K.written K.faults sink.old sink.new) bytes }
 
-    // Where nothing fails, the copy succeeds, but for want of memory.
+    // Where nothing fails, the copy succeeds, or is cut as was asked, but for want of memory.
     ensures complete { (bytes : List ℕ) →
         IsFair (stream_of S.left S.faults source.old source.new) (stream_of K.written K.faults sink.old sink.new)
-        (stream_of L.written L.faults log.old log.new) bytes → (result ≡ Status.Done) ⊎ (result ≡ Status.NoMemory) }
+        (stream_of L.written L.faults log.old log.new) bytes → Succeeds (options_of command.now) result }
 {
     let options = options_of(command);
     let Ok(mut copy) = Copy::open(alloc, &options) else {

@@ -5,7 +5,7 @@ ghost use Rattle.smbd_cli.specs.declared.options.CopyCommand.{CopyCommand as Cop
 ghost use Rattle.smbd_cli.specs.declared.options.Plain.{Plain as Waitless};
 ghost use Rattle.smbd_cli.specs.declared.options.Command.TheVariants as commands;
 ghost use Rattle.smbd_cli.specs.Command.{command_of};
-ghost use Rattle.smbd_cli.specs.Copies.{options_of};
+ghost use Rattle.smbd_cli.specs.Copies.{Succeeds, options_of};
 ghost use Rattle.smbd_cli.specs.Plain.{KeepsPlainPromise, IsFairPlain, bad_line, status_by_line};
 ghost use Rattle.end_workers.specs.Promise.{stream_of, KeepsPromise, IsFair, IsCopied};
 
@@ -40,7 +40,7 @@ pub fn run<R: Wait, S: Source, K: Sink, L: Sink>(
         IsCopied (stream_of S.left S.faults source.old source.new) (stream_of K.written K.faults sink.old sink.new) bytes }
     ensures complete { (command : Copying) (bytes : List ℕ) → command_of words.now ≡ Some (commands.Copy command) →
         IsFair (stream_of S.left S.faults source.old source.new) (stream_of K.written K.faults sink.old sink.new)
-        (stream_of L.written L.faults log.old log.new) bytes → (result ≡ Status.Done) ⊎ (result ≡ Status.NoMemory) }
+        (stream_of L.written L.faults log.old log.new) bytes → Succeeds (options_of command) result }
 
     // the words of a script's run, which has no log beside its output
     ensures plain { (command : Waitless) → command_of words.now ≡ Some (commands.Plain command) →

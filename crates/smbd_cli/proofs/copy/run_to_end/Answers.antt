@@ -7,9 +7,11 @@ barrier-requires g c = c.loop.invariant.on
 
 pub round-requires : goal.round-requires
 round-requires g c =
-    (c.in-More.ensures c.args.copy.now.options (stream_of g.S.Source.left g.S.Source.faults c.args.source.now c.loop.source)
+    let next =
+    c.in-More.ensures c.args.copy.now.options (stream_of g.S.Source.left g.S.Source.faults c.args.source.now c.loop.source)
     (stream_of g.K.Sink.written g.K.Sink.faults c.args.sink.now c.loop.sink) (stream_of g.L.Sink.written g.L.Sink.faults c.args.log.now c.loop.log)
-    refl refl refl refl refl refl c.loop.invariant.going).on
+    refl refl refl refl refl refl c.loop.invariant.going in
+    record { on = next.on; up = next.up }
 
 pub returns-in-Done : goal.returns-in-Done
 returns-in-Done g c =
