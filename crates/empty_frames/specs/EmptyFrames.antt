@@ -1,5 +1,5 @@
--- Data transfer messages without payload, and the responses that are asked for (MS-SMBD 2.2.3 and 3.1.5.1; when a frame
--- goes out is this project's own). The first frame that an end sends or takes is a negotiation message, each later one a
+-- Data transfer messages without payload, and the responses that are asked for (MS-SMBD 2.2.3, 3.1.5.1 and 3.1.5.9; when a
+-- frame goes out is this project's own). The first frame that an end sends or takes is a negotiation message, each later one a
 -- data transfer message. A past is a list of events, the newest one first.
 use Rattle.std.specs.Prelude.{ℕ, ◌+◌, ◌==◌, not, ◌&&◌, Bool, false, Result, Ok, Err, List, [], ◌∷◌, length, if◌then◌else◌}
 use Rattle.smbd_base.specs.declared.event.Event.{Event}

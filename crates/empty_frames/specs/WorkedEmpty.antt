@@ -1,4 +1,4 @@
--- Worked empty frames: how near two ends come to the bound, and two that break it. Both have 3 credits.
+-- Worked empty frames: how near two ends come to the bound, and two pairs that break it. All have 3 credits.
 use Rattle.std.specs.Prelude.{◌≡◌, ℕ, zero, suc, ◌+◌, ◌*◌, ◌≤◌, Bool, true, false, List, ◌∷◌}
 use Rattle.smbd_base.specs.declared.end_id.EndId.TheVariants.{Client, Server}
 use Rattle.smbd_base.specs.declared.event.Event.{Event}
@@ -6,7 +6,7 @@ use Rattle.smbd_base.specs.declared.event.Event.TheVariants.{Post, Submit, Emit,
 use Rattle.smbd_base.specs.Counts.{frames_taken}
 use Rattle.smbd_base.specs.History.{IsLegal}
 use Rattle.smbd_base.specs.Joint.{AreJoint}
-use Rattle.smbd_base.specs.Worked.{abc, three, three_client, three_server, first_frame, second_frame, empty_frame}
+use Rattle.smbd_base.specs.Worked.{abc, three, three_client, three_server, first_frame, second_frame, empty_frame, with_u16}
 use Rattle.joint_laws.specs.WorkedJoint.{Part, client_legal, server_legal, BreakJust, abc_granting}
 use Rattle.empty_frames.specs.EmptyFrames.{empty_answers_sent, empty_grants_sent, asking_frames_taken, empty_frames_of_both, filled_frames_of_both}
 
@@ -30,17 +30,28 @@ abbrev pub server_of_three : List Event
 server_of_three =
     Emit (abc_granting 0) ∷ Submit abc ∷ Emit (empty_frame 2) ∷ Post 1 ∷ Take (abc_granting 0) ∷ Post 1 ∷ Take (empty_frame 3) ∷ three_server
 
--- so many times an end takes an empty frame, and at once grants the one receive that it posts anew
-abbrev pub granting_each : ℕ → List Event → List Event
-granting_each zero past = past
-granting_each (suc times) past = Emit (empty_frame 1) ∷ Post 1 ∷ Take (empty_frame 1) ∷ granting_each times past
+-- so many times an end takes this frame, and at once sends the same
+abbrev pub returning : List ℕ → ℕ → List Event → List Event
+returning frame zero past = past
+returning frame (suc times) past = Emit frame ∷ Post 1 ∷ Take frame ∷ returning frame times past
 
--- two ends do so: none has a message, and each frame of one is followed by one of the other
+-- two ends without a message grant each receive as soon as they have posted it anew
 abbrev pub client_flooding : List Event
-client_flooding = granting_each 3 client_granting
+client_flooding = returning (empty_frame 1) 3 client_granting
 
 abbrev pub server_flooding : List Event
-server_flooding = granting_each 2 (Emit (empty_frame 1) ∷ Post 1 ∷ Take (empty_frame 3) ∷ three_server)
+server_flooding = returning (empty_frame 1) 2 (Emit (empty_frame 1) ∷ Post 1 ∷ Take (empty_frame 3) ∷ three_server)
+
+-- an empty frame that grants so many credits, and asks for a response
+abbrev pub asking_frame : ℕ → List ℕ
+asking_frame granted = with_u16 4 1 (empty_frame granted)
+
+-- two ends without a message answer each empty frame, and ask for a response with each
+abbrev pub client_asking : List Event
+client_asking = returning (asking_frame 1) 3 (Emit (asking_frame 3) ∷ three_client)
+
+abbrev pub server_asking : List Event
+server_asking = returning (asking_frame 1) 2 (Emit (asking_frame 1) ∷ Post 1 ∷ Take (asking_frame 3) ∷ three_server)
 
 abbrev pub in_both_rules : Part → Bool
 in_both_rules client_legal = true
@@ -71,10 +82,14 @@ pub record ComesNearSo : Type 0 where
   pub busy_empty : empty_frames_of_both client_of_three server_of_three ≡ 3
   pub busy_filled : filled_frames_of_both client_of_three server_of_three ≡ 2
 
--- Two ends that grant each receive at once flood each other: seven empty frames and none with payload. Of what is said of
--- joint histories they break just that each end follows its rules.
+-- Two ends that grant each receive at once flood each other, and so do two that ask for a response with each frame: seven empty
+-- frames and none with payload. Of what is said of joint histories they break just that each end follows its rules.
 pub record FloodsSo : Type 0 where
   pub rules : BreakJust in_both_rules three three client_flooding server_flooding
   pub empty : empty_frames_of_both client_flooding server_flooding ≡ 7
   pub filled : filled_frames_of_both client_flooding server_flooding ≡ 0
   pub unbounded : empty_frames_of_both client_flooding server_flooding ≤ 3 * filled_frames_of_both client_flooding server_flooding + 6 → ⊥
+  pub asking_rules : BreakJust in_both_rules three three client_asking server_asking
+  pub asking_empty : empty_frames_of_both client_asking server_asking ≡ 7
+  pub asking_filled : filled_frames_of_both client_asking server_asking ≡ 0
+  pub asking_unbounded : empty_frames_of_both client_asking server_asking ≤ 3 * filled_frames_of_both client_asking server_asking + 6 → ⊥

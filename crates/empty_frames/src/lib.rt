@@ -1,5 +1,5 @@
-//! Laws on data transfer messages without payload: no connection is flooded with them (MS-SMBD 3.1.1 and 3.1.5.1; when a
-//! frame goes out is this project's own). Each is the contract of a function that does nothing.
+//! Laws on data transfer messages without payload: no connection is flooded with them (MS-SMBD 3.1.1, 3.1.5.1 and 3.1.5.9;
+//! when a frame goes out is this project's own). Each is the contract of a function that does nothing.
 #![tactic(auto)]
 
 mod one_end;

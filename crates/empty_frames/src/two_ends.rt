@@ -7,8 +7,9 @@ ghost use Rattle.smbd_base.specs.Joint.{AreJoint};
 ghost use Rattle.empty_frames.specs.EmptyFrames.{empty_frames_of_both, filled_frames_of_both};
 
 /// The data transfer messages without payload that two ends send to each other are bounded by those with payload: where each
-/// end has at least `least` credits, `least - 2` times the former are at most `least` times the latter and two more. Lawful
-/// limits have 3 credits or more: so there are at most 3 times as many without payload as with, and 6 more.
+/// end has at least `least` credits, `least - 2` times the number of the former is at most `least` times the number of the
+/// latter plus 2. Lawful limits have 3 credits or more: so for each message with payload there are at most 3 without, and 6
+/// more.
 pub fn empty_frames_are_bounded()
     ensures any { (client_limits server_limits : Limits) (client server : List Happening) (least : ℕ)
         → IsLawful client_limits → IsLawful server_limits → AreJoint client_limits server_limits client server

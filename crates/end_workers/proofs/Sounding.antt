@@ -11,6 +11,7 @@ use Rattle.smbd_base.specs.History.{messages_submitted}
 use Rattle.smbd_base.specs.Delivery.{messages_delivered}
 use Rattle.smbd_base.specs.Joint.{AreJoint}
 use Rattle.smbd_base.proofs.PagesFitLaws.{lists-fit}
+use Rattle.empty_frames.proofs.Bounding.{bounded_lawful}
 use Rattle.joint_laws.proofs.Meeting.{balances, client_meets, server_meets}
 use Rattle.world_core.specs.Run.{State}
 use Rattle.file_messages.specs.declared.kind.CopyKind.{CopyKind}
@@ -189,6 +190,7 @@ module _ (o : CopyOptions) (p : Pasts) (world : State) (crew : CrewState) (u : I
       joint = joint;
       cuts = as-asked o.cut o world refl u.connected.link u.connected.few;
       credits = balances o.limits o.limits world.client world.server u.connected.lawful u.connected.lawful joint;
+      few_empty = bounded_lawful o.limits o.limits world.client world.server u.connected.lawful u.connected.lawful joint;
       client_receives = client_meets o.limits o.limits world.client world.server u.connected.lawful u.connected.lawful joint;
       server_receives = server_meets o.limits o.limits world.client world.server u.connected.lawful u.connected.lawful joint;
       to_server = to_server;

@@ -1,5 +1,5 @@
 -- The promise of a copy (this project's own). A past, and a list of page events, has the newest event first.
-use Rattle.std.specs.Prelude.{◌≡◌, ℕ, ◌*◌, ◌/◌, ◌<◌, ◌≤◌, ◌++◌, Bool, true, false, Option, None, Some, List, length, take, if◌then◌else◌}
+use Rattle.std.specs.Prelude.{◌≡◌, ℕ, ◌+◌, ◌*◌, ◌/◌, ◌<◌, ◌≤◌, ◌++◌, Bool, true, false, Option, None, Some, List, length, take, if◌then◌else◌}
 use Rattle.std.specs.Io.KnownBytes.{Appends, Consumes, IsAtEnd}
 use Rattle.std.specs.List.{flat_map}
 use mathlib.Core.List.{IsPrefix}
@@ -13,6 +13,7 @@ use Rattle.smbd_base.specs.Joint.{AreJoint}
 use Rattle.smbd_base.specs.PagesFit.{PagesFit}
 use Rattle.joint_laws.specs.Credits.{AreBalanced}
 use Rattle.joint_laws.specs.Receives.{MeetReceives}
+use Rattle.empty_frames.specs.EmptyFrames.{empty_frames_of_both, filled_frames_of_both}
 use Rattle.smbd_outside.specs.declared.status.Status.{Status}
 use Rattle.smbd_outside.specs.declared.status.Status.TheVariants.{Done, Usage, ReadFault, WriteFault, LogFault, TooLong, Cut, BadInput, NoMemory}
 use Rattle.smbd_outside.specs.Causes.{Rose}
@@ -127,6 +128,8 @@ pub record IsSoundCourse (o : CopyOptions) (c : Course) : Type 0 where
   -- no end sends without a receive that its peer has posted, or holds more credits than its peer posts receives, and the
   -- credits never all vanish
   pub credits : AreBalanced o.limits o.limits c.client c.server
+  -- no connection is flooded with messages without payload: there are at most 3 times as many as with, and 6 more
+  pub few_empty : empty_frames_of_both c.client c.server ≤ 3 * filled_frames_of_both c.client c.server + 6
   -- each frame met a receive that its taker had posted before the frame was sent
   pub client_receives : MeetReceives o.limits c.client c.server
   pub server_receives : MeetReceives o.limits c.server c.client

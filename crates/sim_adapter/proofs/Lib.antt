@@ -1,0 +1,9 @@
+pub mod Lanes
+pub mod Casts
+pub mod Words
+pub mod Staying
+pub mod Opening
+pub mod Posting
+pub mod Emitting
+pub mod Taking
+pub mod Meeting

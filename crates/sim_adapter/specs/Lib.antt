@@ -1,1 +1,5 @@
+pub mod Rule
+pub mod Plays
+pub mod Passes
+pub mod Answers
 pub mod Raw

@@ -1,4 +1,4 @@
-use Rattle.std.proofs.Common.{◌≡◌, inl, inr, ℕ, zero, suc, ◌≤◌, List, [], ◌∷◌, length, refl, ap, subst, lit≤, arith}
+use Rattle.std.proofs.Common.{slice_index_or, ◌≡◌, inl, inr, ℕ, zero, suc, ◌≤◌, List, [], ◌∷◌, length, refl, ap, subst, lit≤, arith}
 use Rattle.std.proofs.lemmas.Bool.{cases_lt}
 use Rattle.smbd_base.specs.declared.event.Event.{Event}
 use Rattle.smbd_base.specs.declared.next.Next.{Next}
@@ -10,7 +10,7 @@ use Rattle.smbd_base.specs.NegotiateMessages.{request_fault, fault_in_request, r
 use Rattle.smbd_base.specs.Pieces.{pieces_of}
 use Rattle.smbd_base.specs.Worked.{three, three_server, empty_frame}
 use Rattle.joint_laws.specs.WorkedJoint.{client_legal, server_legal, client_accepted, server_accepted, to_client, to_server, client_credits, server_credits, credits_left, client_after, server_after, BreakJust}
-use Rattle.empty_frames.specs.WorkedEmpty.{client_granting, client_of_three, server_of_three, client_flooding, server_flooding, in_both_rules}
+use Rattle.empty_frames.specs.WorkedEmpty.{client_granting, client_of_three, server_of_three, client_flooding, server_flooding, asking_frame, client_asking, server_asking, in_both_rules}
 use Rattle.empty_frames.proofs.worked_empty.worked_empty_frames.Goals as goal
 
 -- ---- each of some frames
@@ -112,6 +112,27 @@ flooding credits_left = lit≤ tt
 flooding client_after = after client_flooding server_flooding 4 refl (lit≤ tt, (lit≤ tt, (lit≤ tt, (lit≤ tt, tt))))
 flooding server_after = after server_flooding client_flooding 4 refl (lit≤ tt, (lit≤ tt, (lit≤ tt, (lit≤ tt, tt))))
 
+-- the flags of the frame that the next event sends
+abbrev flags_sent : Next → ℕ
+flags_sent (due.Post n) = 0
+flags_sent (due.Emit f) = slice_index_or f 4 0
+flags_sent due.Close = 0
+flags_sent due.Idle = 0
+
+asking : BreakJust in_both_rules three three client_asking server_asking
+unfolding next_event take_fault fault_expecting data_frame_of header_bytes pieces_of request_fault fault_in_request response_fault fault_in_response
+asking client_legal = λ h. let e : ◌≡◌ {A = ℕ} 0 1 = ap flags_sent h.0 in omega arith
+asking server_legal = λ h. let e : ◌≡◌ {A = ℕ} 0 1 = ap flags_sent h.0 in omega arith
+asking client_accepted = (refl, (refl, (refl, (refl, tt))))
+asking server_accepted = (refl, (refl, (refl, (refl, tt))))
+asking to_client = ([], refl)
+asking to_server = (asking_frame 1 ∷ [], refl)
+asking client_credits = record { flight = lit≤ tt; grants = lit≤ tt; granted = lit≤ tt; sum = refl; most = lit≤ tt }
+asking server_credits = record { flight = lit≤ tt; grants = lit≤ tt; granted = lit≤ tt; sum = refl; most = lit≤ tt }
+asking credits_left = lit≤ tt
+asking client_after = after client_asking server_asking 4 refl (lit≤ tt, (lit≤ tt, (lit≤ tt, (lit≤ tt, tt))))
+asking server_after = after server_asking client_asking 4 refl (lit≤ tt, (lit≤ tt, (lit≤ tt, (lit≤ tt, tt))))
+
 pub returns-clause-flood : goal.returns-clause-flood
 unfolding data_frame_of header_bytes pieces_of request_fault fault_in_request response_fault fault_in_response
 returns-clause-flood c = record {
@@ -119,4 +140,8 @@ returns-clause-flood c = record {
   empty = refl;
   filled = refl;
   unbounded = λ h. let e : 7 ≤ 6 = h in omega arith;
+  asking_rules = asking;
+  asking_empty = refl;
+  asking_filled = refl;
+  asking_unbounded = λ h. let e : 7 ≤ 6 = h in omega arith;
 }

@@ -1,0 +1,5 @@
+pub mod Command
+pub mod Given
+pub mod Lawful
+pub mod Seen
+pub mod Worked

@@ -1,0 +1,2 @@
+pub mod QuietEnds
+pub mod WorkedQuiet
