@@ -1,7 +1,7 @@
 -- What holds of each command that words name.
 use Rattle.std.proofs.Common.{◌≡◌, ℕ, ◌≤◌, ◌==◌, Bool, true, false, cond, Option, Some, None, option_map, List, [], ◌∷◌, length, codes, refl, subst, ◌∙◌, arith}
 use Rattle.std.specs.Prelude.{is_none, bytes_eq, IfSome}
-use Rattle.smbd_base.specs.Limits.{Limits}
+use Rattle.smbd_base.specs.Limits.{Limits, IsLawful, usual_limits}
 use Rattle.event_log.specs.Reading.{number_in, ◌>>=◌}
 use Rattle.event_log.proofs.NumberLemmas.{number_in-some}
 use Rattle.file_messages.specs.declared.kind.CopyKind.{CopyKind}
@@ -12,7 +12,7 @@ use Rattle.command_words.specs.declared.options.Command.{Command}
 use Rattle.command_words.specs.declared.options.Command.TheVariants as commands
 use Rattle.command_words.specs.declared.options.Plain.TheVariants.{Sim}
 use Rattle.command_words.specs.Given.{Text, Given, given_of}
-use Rattle.command_words.specs.Command.{number_given, channel_given, cut_given, limits_given, options_given, copy_given, load_values, load_given, is_for_sim, sim_given, command_given, command_with}
+use Rattle.command_words.specs.Command.{number_given, channel_given, cut_given, limits_given, options_given, copy_given, load_values, load_given, is_for_sim, sim_given, command_given, command_of}
 use Rattle.command_words.specs.Lawful.{IsAsked}
 
 -- where two steps gave a value, the first one gave one
@@ -47,7 +47,22 @@ record AreFrom (kind : CopyKind) (given : Given) (o : CopyOptions) : Type 0 wher
   some : 1 ≤ o.workers
   few : o.workers ≤ 8
   kind_is : o.kind ≡ kind
+  limits : IsLawful o.limits
   cut_is : cut_given given.cut ≡ Some o.cut
+
+lawful : (given : Given) (limits : Limits) → limits_given given ≡ Some limits → IsLawful limits
+lawful given limits is =
+    let credits = bound (number_given 255 3 255 given.credits) _ limits is in
+    let send_size = bound (number_given 1364 128 8192 given.send_size) _ limits credits.2 in
+    let pages = bound (number_given 64 16 255 given.pages) _ limits send_size.2 in
+    let made : record usual_limits { credits = credits.0; send_size = send_size.0; pages = pages.0 } ≡ limits = cc in
+    subst IsLawful made (record {
+      credits = within 255 3 255 given.credits credits.0 (omega arith) (omega arith) credits.1;
+      send_size = within 1364 128 8192 given.send_size send_size.0 (omega arith) (omega arith) send_size.1;
+      receive_size = (omega arith, omega arith);
+      fragmented_size = (omega arith, omega arith);
+      pages = within 64 16 255 given.pages pages.0 (omega arith) (omega arith) pages.1;
+    })
 
 from : (kind : CopyKind) (given : Given) (o : CopyOptions) → options_given kind given ≡ Some o → AreFrom kind given o
 from kind given o is =
@@ -57,9 +72,9 @@ from kind given o is =
     let cut = bound (cut_given given.cut) _ o limits.2 in
     let fits = within 4 1 8 given.workers workers.0 (omega arith) (omega arith) workers.1 in
     let made : record { kind = kind; channel = channel.0; workers = workers.0; limits = limits.0; cut = cut.0 } ≡ o = cc in
-    subst (AreFrom kind given) made (record { some = fits.0; few = fits.1; kind_is = refl; cut_is = cut.1 })
+    subst (AreFrom kind given) made (record { some = fits.0; few = fits.1; kind_is = refl; limits = lawful given limits.0 limits.1; cut_is = cut.1 })
 
-abbrev pub AskedIfAny : Option Command → Type 0
+abbrev AskedIfAny : Option Command → Type 0
 AskedIfAny o = IfSome o IsAsked
 
 either : (b : Bool) (x y : Option Command) → (b ≡ true → AskedIfAny x) → AskedIfAny y → AskedIfAny (cond b x y)
@@ -78,7 +93,7 @@ copy-asked : (kind : CopyKind) (given : Given) → AskedIfAny (copy_given kind g
 copy-asked kind given = either (length given.values == 0) _ None
     (λ _. each (λ (o : CopyOptions). commands.Copy (copies.Copy o)) (options_given kind given) (λ o is.
     let f = from kind given o is in
-    record { some = f.some; few = f.few; numbered = numbered given.cut o.cut f.cut_is })) tt
+    record { may = record { some = f.some; few = f.few; numbered = numbered given.cut o.cut f.cut_is }; limits = f.limits })) tt
 
 short : (values : List Text) (read : ℕ × ℕ) → load_values values ≡ Some read → read.1 ≤ 16777216
 short [] read is = cc
@@ -96,7 +111,15 @@ load-asked given = either (is_none given.cut) _ None
     (λ none. after (load_values given.values) _ (λ values read.
     each (λ (o : CopyOptions). commands.Copy (copies.Load values.0 values.1 o)) (options_given kinds.Put given) (λ o is.
     let f = from kinds.Put given o is in
-    record { lawful = record { some = f.some; few = f.few; numbered = numbered given.cut o.cut f.cut_is }; kind = f.kind_is; uncut = uncut given.cut o.cut none f.cut_is; short = short given.values values read }))) tt
+    record {
+      may = record {
+        lawful = record { some = f.some; few = f.few; numbered = numbered given.cut o.cut f.cut_is };
+        kind = f.kind_is;
+        uncut = uncut given.cut o.cut none f.cut_is;
+        short = short given.values values read;
+      };
+      limits = f.limits;
+    }))) tt
 
 sim-asked : (given : Given) → AskedIfAny (sim_given given)
 sim-asked given = either (is_for_sim given) _ None (λ _. each (λ (limits : Limits). commands.Plain (Sim limits)) (limits_given given) (λ _ _. tt)) tt
@@ -108,5 +131,6 @@ given-asked name given =
     (either (bytes_eq name (codes "load")) _ _ (λ _. load-asked given)
     (either (bytes_eq name (codes "sim")) _ None (λ _. sim-asked given) tt)))
 
-pub asked : (name : Text) (words : List Text) → AskedIfAny (command_with name words)
-asked name words = after (given_of words) (command_given name) (λ given _. given-asked name given)
+pub asked : (words : List Text) → IfSome (command_of words) IsAsked
+asked [] = tt
+asked (name ∷ words) = after (given_of words) (command_given name) (λ given _. given-asked name given)

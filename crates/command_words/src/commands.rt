@@ -189,7 +189,7 @@ fn number_given(text: Option<&str>, usual: u64, least: u64, most: u64) -> Option
 /// `--name=text`, and the two values of `load`, in any order.
 pub fn command_of(alloc: Global, words: &[Word]) -> Result<Option<Command>, NoMemory>
     ensures value { IfOk result (λ command. command ≡ spec.command_of words.now) }
-    ensures asked { IfOk result (λ command. IfSome command IsAsked) }
+    ensures asked { IfSome (spec.command_of words.now) IsAsked }
 {
     match words.split_first() {
         Some((name, rest)) => command_with(alloc, name, rest),

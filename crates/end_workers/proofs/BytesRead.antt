@@ -1,12 +1,12 @@
 -- The bytes of a group are read, and handed to the machine that wants them.
-use Rattle.std.proofs.Common.{◌≡◌, ℕ, ◌+◌, ◌-◌, ◌%◌, ◌<◌, ◌≤◌, Bool, true, false, cond, Option, List, ◌++◌, length, refl, sym, ap, ◌∙◌, subst, length-append, arith, Global}
+use Rattle.std.proofs.Common.{◌≡◌, ◌≢◌, inl, inr, ℕ, ◌+◌, ◌-◌, ◌%◌, ◌<◌, ◌≤◌, Bool, true, false, cond, Option, List, ◌++◌, length, refl, sym, ap, ◌∙◌, subst, length-append, arith, Global}
 use Rattle.std.specs.Io.KnownBytes.{Consumes, IsAtEnd}
 use Rattle.std.specs.Vec.{vec_capacity}
 use Rattle.std.specs.declared.vec.Vec.{Vec}
 use Rattle.std.proofs.KnownBytes.{Consumes-trans}
 use Rattle.smbd_base.specs.History.{is_cut}
 use Rattle.smbd_outside.specs.declared.status.Status.{Status}
-use Rattle.smbd_outside.specs.declared.status.Status.TheVariants.{NoMemory}
+use Rattle.smbd_outside.specs.declared.status.Status.TheVariants.{Cut, NoMemory}
 use Rattle.world_core.specs.Run.{State}
 use Rattle.file_messages.specs.declared.layout.TheConstants.{GROUP_SIZE}
 use Rattle.file_messages.specs.declared.kind.CopyKind.{CopyKind}
@@ -151,6 +151,11 @@ may-take c bytes ended h i n =
     record { options = c.options; kind_is = refl; past = h.past; stands = h.stands; wanted = wanted-bytes c bytes ended i n c.options h.past refl h.stands h.read }
 
 -- ---- how reading stops
+
+-- the source failed, or gave too much
+pub not-cut : (status : Status) (before read faults_before faults : ℕ) → StopsReading status before read faults_before faults → status ≢ Cut
+not-cut status before read faults_before faults (inl long) = λ cut. (let is = long.0 in cc)
+not-cut status before read faults_before faults (inr fault) = λ cut. (let is = fault.0 in cc)
 
 pub reading-stops : (c : Copy) (o : CopyOptions) (from to log : Stream) (was now : Option (List ℕ)) (count faults : ℕ) (status : Status) (more : List ℕ) → GoesOn c → IsWanted c
     → from.now ≡ was → from.faults ≡ count → StaysUncut o from to log c → Consumes was now more → length more < GROUP_SIZE → StopsReading status c.read (length more) count faults

@@ -1,5 +1,5 @@
 -- The promise of a copy (this project's own). A past, and a list of page events, has the newest event first.
-use Rattle.std.specs.Prelude.{◌≡◌, ℕ, ◌+◌, ◌*◌, ◌/◌, ◌<◌, ◌≤◌, ◌++◌, Bool, true, false, Option, None, Some, List, length, take, if◌then◌else◌}
+use Rattle.std.specs.Prelude.{◌≡◌, ◌⊎◌, is_some, ℕ, ◌+◌, ◌*◌, ◌/◌, ◌<◌, ◌≤◌, ◌++◌, Bool, true, false, Option, None, Some, List, length, take, if◌then◌else◌}
 use Rattle.std.specs.Io.KnownBytes.{Appends, Consumes, IsAtEnd}
 use Rattle.std.specs.List.{flat_map}
 use mathlib.Core.List.{IsPrefix}
@@ -228,3 +228,7 @@ pub record IsFair (source sink log : Stream) (bytes : List ℕ) : Type 0 where
 pub record IsCopied (source sink : Stream) (bytes : List ℕ) : Type 0 where
   pub at_end : IsAtEnd source.now
   pub got : Appends sink.before sink.now bytes
+
+-- how a copy ends where nothing fails: it is done, or cut where that was asked for, or memory was wanting
+abbrev pub Succeeds : CopyOptions → Status → Type 0
+Succeeds o status = (status ≡ Done) ⊎ ((status ≡ Cut) × (is_some o.cut ≡ true)) ⊎ (status ≡ NoMemory)

@@ -1,8 +1,9 @@
 //! A barrier.
 
-ghost use Rattle.std.specs.Prelude.{◌≡◌, false, true, IfErr, IfOk, OnOk};
+ghost use Rattle.std.specs.Prelude.{◌≡◌, ◌≢◌, false, true, IfErr, IfOk, OnOk};
+ghost use Rattle.smbd_outside.specs.declared.status.Status.TheVariants as statuses;
 ghost use Rattle.copy_parts.specs.declared.options.CopyOptions.{CopyOptions as Options};
-ghost use Rattle.end_workers.specs.Barriers.{Settles, HasEnded};
+ghost use Rattle.end_workers.specs.Barriers.{Settles, HasEnded, StopsBy};
 ghost use Rattle.end_workers.specs.Progress.{GoesOn, IsAfterBarrier, IsGoing, IsHandedAll, IsReadAll, IsSettled, IsStoredAll, StaysUncut, moved};
 ghost use Rattle.end_workers.specs.Promise.{KeepsPromise, Stream};
 
@@ -62,8 +63,8 @@ impl Copy {
         ensures stops { (o : Options) (from to told : Stream) → from.now ≡ S.left source.old → from.faults ≡ S.faults source.old
             → to.now ≡ K.written sink.old → to.faults ≡ K.faults sink.old → told.now ≡ L.written log.old → told.faults ≡ L.faults log.old
             → IsGoing o from to told self.old
-            → IfErr result (λ status. KeepsPromise status o (moved from (S.left source.new) (S.faults source.new)) (moved to (K.written sink.new) (K.faults sink.new))
-            (moved told (L.written log.new) (L.faults log.new))) }
+            → IfErr result (λ status. StopsBy status o (moved from (S.left source.new) (S.faults source.new)) (moved to (K.written sink.new) (K.faults sink.new))
+            (moved told (L.written log.new) (L.faults log.new)) self.new) }
     {
         self.hand();
         self.tell(log)?;
@@ -91,6 +92,7 @@ impl Copy {
             → OnOk result (IsSettled o from to (moved told (L.written log.new) (L.faults log.new)) self.new) }
         ensures stops { (o : Options) (from to told : Stream) → told.now ≡ L.written log.old → told.faults ≡ L.faults log.old → IsHandedAll o from to told self.old
             → IfErr result (λ status. KeepsPromise status o from to (moved told (L.written log.new) (L.faults log.new))) }
+        ensures no_cut { IfErr result (λ status. status ≢ statuses.Cut) }
     {
         let Ok(news) = news_of(
             self.alloc,
@@ -128,6 +130,7 @@ impl Copy {
         requires { GoesOn self.old }
         ensures gives { (o : Options) (from to log : Stream) → IsReadAll o from to log self.old → OnOk result (IsAfterBarrier o from to log self.new) }
         ensures stops { (o : Options) (from to log : Stream) → IsReadAll o from to log self.old → IfErr result (λ status. KeepsPromise status o from to log) }
+        ensures no_cut { IfErr result (λ status. status ≢ statuses.Cut) }
     {
         match self.parts.give() {
             Ok(()) => Ok(()),

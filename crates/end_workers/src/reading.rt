@@ -1,8 +1,9 @@
 //! Reading the bytes of a copy.
 
-ghost use Rattle.std.specs.Prelude.{◌≡◌, ◌+◌, ◌<◌, ◌≤◌, ◌%◌, true, false, [], length, vec_capacity, IfErr, IfOk, OnOk};
+ghost use Rattle.std.specs.Prelude.{◌≡◌, ◌≢◌, ◌+◌, ◌<◌, ◌≤◌, ◌%◌, true, false, [], length, vec_capacity, IfErr, IfOk, OnOk};
 ghost use Rattle.std.specs.Io.KnownBytes.{Consumes, IsAtEnd};
 ghost use Rattle.file_messages.specs.declared.layout.TheConstants.{GROUP_SIZE as group_size};
+ghost use Rattle.smbd_outside.specs.declared.status.Status.TheVariants as statuses;
 ghost use Rattle.copy_parts.specs.declared.options.CopyOptions.{CopyOptions as Options};
 ghost use Rattle.end_workers.specs.Progress.{GoesOn, IsReadAll, IsWanted, StaysUncut, StopsReading, bytes_left, moved};
 ghost use Rattle.end_workers.specs.Promise.{KeepsPromise, Stream};
@@ -51,6 +52,7 @@ impl Copy {
             → OnOk result (IsReadAll o (moved from (S.left source.new) (S.faults source.new)) to log self.new) }
         ensures stops { (o : Options) (from to log : Stream) → from.now ≡ S.left source.old → from.faults ≡ S.faults source.old → StaysUncut o from to log self.old
             → IfErr result (λ status. KeepsPromise status o (moved from (S.left source.new) (S.faults source.new)) to log) }
+        ensures no_cut { IfErr result (λ status. status ≢ statuses.Cut) }
     {
         while self.parts.wants_bytes(self.options.kind) {
             self.read_group(source)?;
@@ -67,6 +69,7 @@ impl Copy {
             → OnOk result (StaysUncut o (moved from (S.left source.new) (S.faults source.new)) to log self.new) }
         ensures stops { (o : Options) (from to log : Stream) → from.now ≡ S.left source.old → from.faults ≡ S.faults source.old → StaysUncut o from to log self.old
             → IfErr result (λ status. KeepsPromise status o (moved from (S.left source.new) (S.faults source.new)) to log) }
+        ensures no_cut { IfErr result (λ status. status ≢ statuses.Cut) }
         ensures fewer { OnOk result (bytes_left self.new < bytes_left self.old) }
     {
         self.group.clear();

@@ -1,6 +1,7 @@
 //! Writing the groups that came out.
 
-ghost use Rattle.std.specs.Prelude.{◌≡◌, IfErr, OnOk};
+ghost use Rattle.std.specs.Prelude.{◌≡◌, ◌≢◌, IfErr, OnOk};
+ghost use Rattle.smbd_outside.specs.declared.status.Status.TheVariants as statuses;
 ghost use Rattle.copy_parts.specs.declared.options.CopyOptions.{CopyOptions as Options};
 ghost use Rattle.end_workers.specs.Progress.{GoesOn, IsSettled, IsStoredAll, moved};
 ghost use Rattle.end_workers.specs.Promise.{KeepsPromise, Stream};
@@ -17,6 +18,7 @@ impl Copy {
             → OnOk result (IsStoredAll o from (moved to (K.written sink.new) (K.faults sink.new)) log self.new) }
         ensures stops { (o : Options) (from to log : Stream) → to.now ≡ K.written sink.old → to.faults ≡ K.faults sink.old → IsSettled o from to log self.old
             → IfErr result (λ status. KeepsPromise status o from (moved to (K.written sink.new) (K.faults sink.new)) log) }
+        ensures no_cut { IfErr result (λ status. status ≢ statuses.Cut) }
     {
         while let Some(group) = self.parts.next_group(self.options.kind) {
             match write_whole(sink, group.bytes()) {

@@ -14,5 +14,5 @@ summary_text size requests bytes =
     codes "length " ++ decimal size ++ codes " requests " ++ decimal requests ++ codes " sha256 " ++ encode_lower (sha256 bytes) ++ codes "\n"
 
 -- the line of the made input of so many bytes: what it was asked for alone says what it is
-abbrev pub load_line : ℕ → ℕ → List ℕ
+unfoldable pub load_line : ℕ → ℕ → List ℕ
 load_line first size = summary_text size (requests_of_put size) (made_bytes first size)

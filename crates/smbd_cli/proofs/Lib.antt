@@ -1,4 +1,2 @@
-pub mod Completing
 pub mod Named
-pub mod Opened
 pub mod Plainly

@@ -2,10 +2,10 @@
 use Rattle.std.proofs.Common.{◌≡◌, ◌⊎◌, inl, inr, ℕ, List, refl, sym, ap, ◌∙◌, arith}
 use Rattle.smbd_outside.specs.declared.status.Status.{Status}
 use Rattle.smbd_outside.specs.declared.status.Status.TheVariants.{Done, Usage, ReadFault, WriteFault, LogFault, TooLong, Cut, BadInput, NoMemory}
-use Rattle.smbd_cli.specs.declared.options.Plain.{Plain}
+use Rattle.command_words.specs.declared.options.Plain.{Plain}
 use Rattle.end_workers.specs.Promise.{Stream}
 use Rattle.smbd_cli.specs.Plain.{KeepsPlainPromise, IsFairPlain, bad_line, status_by_line}
-use Rattle.smbd_cli.proofs.Completing.{read_most, read_all}
+use Rattle.copy_loads.proofs.Completing.{read_most, read_all}
 
 pub plain_completes : (status : Status) (command : Plain) (source sink : Stream) (input : List ℕ) → KeepsPlainPromise status command source sink
     → IsFairPlain source sink input → (status ≡ status_by_line (bad_line command input)) ⊎ (status ≡ NoMemory)

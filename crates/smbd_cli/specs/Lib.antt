@@ -1,4 +1,3 @@
-pub mod Command
 pub mod Copies
 pub mod Input
 pub mod Plain

@@ -9,8 +9,8 @@ use Rattle.event_log.specs.Lines.{lines_text}
 use Rattle.world_core.specs.Run.{run_of}
 use Rattle.sim_script.specs.Scripts.{first_bad_line, script_of}
 use Rattle.run_log.specs.RunLines.{run_lines}
-use Rattle.smbd_cli.specs.declared.options.Plain.{Plain}
-use Rattle.smbd_cli.specs.declared.options.Plain.TheVariants.{Sim}
+use Rattle.command_words.specs.declared.options.Plain.{Plain}
+use Rattle.command_words.specs.declared.options.Plain.TheVariants.{Sim}
 use Rattle.smbd_cli.specs.Input.{IsInput, CutsInput}
 use Rattle.end_workers.specs.Promise.{Stream, IsSilent}
 use Rattle.end_workers.specs.Sizes.{most_bytes}

@@ -3,15 +3,12 @@
 
 mod copy;
 mod input;
-mod options;
 mod plain;
 mod program;
-mod words;
 
+pub use command_words::{Command, CopyCommand, Plain, Word};
 pub use copy::run_copy;
 pub use end_workers::CopyOptions;
 pub use file_messages::{Channel, CopyKind};
-pub use options::{Command, CopyCommand, Plain};
 pub use plain::run_plain;
 pub use program::run;
-pub use words::Word;

@@ -9,7 +9,7 @@ ghost use Rattle.end_workers.specs.Promise.{stream_of};
 ghost use Rattle.end_workers.specs.Sizes.{most_bytes};
 
 use crate::input::read_input;
-use crate::options::Plain;
+use command_words::Plain;
 use event_log::{Line, write_lines};
 use run_log::lines_of_run;
 use sim_script::run_text;

@@ -1,25 +1,27 @@
 //! The top call.
 
-ghost use Rattle.std.specs.Prelude.{◌≡◌, ◌↔◌, ◌⊎◌, ℕ, List, Some, None};
-ghost use Rattle.smbd_cli.specs.declared.options.CopyCommand.{CopyCommand as Copying};
-ghost use Rattle.smbd_cli.specs.declared.options.Plain.{Plain as Waitless};
-ghost use Rattle.smbd_cli.specs.declared.options.Command.TheVariants as commands;
-ghost use Rattle.smbd_cli.specs.Command.{command_of};
-ghost use Rattle.smbd_cli.specs.Copies.{Succeeds, options_of};
+ghost use Rattle.std.specs.Prelude.{◌≡◌, ◌⊎◌, ℕ, List, Some, None};
+ghost use Rattle.command_words.specs.declared.options.CopyCommand.{CopyCommand as Copying};
+ghost use Rattle.command_words.specs.declared.options.Plain.{Plain as Waitless};
+ghost use Rattle.command_words.specs.declared.options.Command.TheVariants as commands;
+ghost use Rattle.command_words.specs.Command.{command_of};
+ghost use Rattle.command_words.specs.Lawful.{options_of};
+ghost use Rattle.smbd_cli.specs.Copies.{HasGivenAll, IsFairCopy, KeepsCopyPromise};
 ghost use Rattle.smbd_cli.specs.Plain.{KeepsPlainPromise, IsFairPlain, bad_line, status_by_line};
-ghost use Rattle.end_workers.specs.Promise.{stream_of, KeepsPromise, IsFair, IsCopied};
+ghost use Rattle.end_workers.specs.Promise.{stream_of, Succeeds};
 
 use crate::copy::run_copy;
-use crate::options::Command;
 use crate::plain::run_plain;
-use crate::words::{Word, command_of};
+use command_words::{Command, Word, command_of};
+use smbd_base::NoMemory;
 use smbd_outside::{Sink, Source, Status};
 use std::alloc::Global;
 use std::sync::Wait;
 
-/// Does all that the program does: reads the words, and then copies the source to the sink, which the log is told, or runs
-/// the script that the source has, whose log the sink gets. `Usage` comes exactly where the words name no command, and then
-/// nothing is read or written. Every other status is that of the copy or of the run, with its cause.
+/// Does all that the program does: reads the words, and then copies the source to the sink, which the log is told, puts a made input into
+/// memory, or runs the script that the source has, whose log the sink gets. `Usage` comes exactly where the words name no command, and
+/// then nothing is read or written. Every other status is that of the copy or of the run, with its cause. Where memory is wanting for
+/// reading the words, that is answered in place of any other status.
 pub fn run<R: Wait, S: Source, K: Sink, L: Sink>(
     rt: &R,
     alloc: Global,
@@ -28,19 +30,19 @@ pub fn run<R: Wait, S: Source, K: Sink, L: Sink>(
     sink: &mut K,
     log: &mut L,
 ) -> Status
-    ensures usage { (result ≡ Status.Usage) ↔ (command_of words.now ≡ None) }
-    ensures untouched { result ≡ Status.Usage → (source.new ≡ source.old) × (sink.new ≡ sink.old) × (log.new ≡ log.old) }
+    ensures usage { result ≡ Status.Usage → command_of words.now ≡ None }
+    ensures unnamed { command_of words.now ≡ None → (result ≡ Status.Usage) ⊎ (result ≡ Status.NoMemory) }
+    ensures untouched { command_of words.now ≡ None → (source.new ≡ source.old) × (sink.new ≡ sink.old) × (log.new ≡ log.old) }
 
     // the words of a copy
-    ensures promise { (command : Copying) → command_of words.now ≡ Some (commands.Copy command) → KeepsPromise result (options_of command)
+    ensures promise { (command : Copying) → command_of words.now ≡ Some (commands.Copy command) → KeepsCopyPromise result command
         (stream_of S.left S.faults source.old source.new) (stream_of K.written K.faults sink.old sink.new)
         (stream_of L.written L.faults log.old log.new) }
-    ensures copied { (command : Copying) (bytes : List ℕ) → command_of words.now ≡ Some (commands.Copy command) →
-        S.left source.old ≡ Some bytes → result ≡ Status.Done →
-        IsCopied (stream_of S.left S.faults source.old source.new) (stream_of K.written K.faults sink.old sink.new) bytes }
-    ensures complete { (command : Copying) (bytes : List ℕ) → command_of words.now ≡ Some (commands.Copy command) →
-        IsFair (stream_of S.left S.faults source.old source.new) (stream_of K.written K.faults sink.old sink.new)
-        (stream_of L.written L.faults log.old log.new) bytes → Succeeds (options_of command) result }
+    ensures given { (command : Copying) → command_of words.now ≡ Some (commands.Copy command) → result ≡ Status.Done →
+        HasGivenAll command (stream_of S.left S.faults source.old source.new) (stream_of K.written K.faults sink.old sink.new) }
+    ensures complete { (command : Copying) → command_of words.now ≡ Some (commands.Copy command) →
+        IsFairCopy command (stream_of S.left S.faults source.old source.new) (stream_of K.written K.faults sink.old sink.new)
+        (stream_of L.written L.faults log.old log.new) → Succeeds (options_of command) result }
 
     // the words of a script's run, which has no log beside its output
     ensures plain { (command : Waitless) → command_of words.now ≡ Some (commands.Plain command) →
@@ -50,9 +52,10 @@ pub fn run<R: Wait, S: Source, K: Sink, L: Sink>(
         IsFairPlain (stream_of S.left S.faults source.old source.new) (stream_of K.written K.faults sink.old sink.new) input →
         (result ≡ status_by_line (bad_line command input)) ⊎ (result ≡ Status.NoMemory) }
 {
-    match command_of(words) {
-        Some(Command::Copy(command)) => run_copy(rt, alloc, &command, source, sink, log),
-        Some(Command::Plain(command)) => run_plain(alloc, &command, source, sink),
-        None => Status::Usage,
+    match command_of(alloc, words) {
+        Ok(Some(Command::Copy(command))) => run_copy(rt, alloc, &command, source, sink, log),
+        Ok(Some(Command::Plain(command))) => run_plain(alloc, &command, source, sink),
+        Ok(None) => Status::Usage,
+        Err(NoMemory) => Status::NoMemory,
     }
 }

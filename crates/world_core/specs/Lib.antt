@@ -5,3 +5,4 @@ pub mod Kept
 pub mod Newest
 pub mod Paired
 pub mod Worked
+pub mod Raw

@@ -4,9 +4,12 @@
 
 mod choice;
 mod linked_end;
+mod raw;
+mod raw_end;
 mod worked;
 mod world;
 
 pub use choice::{Choice, Step};
+pub use raw::{RawRun, run_raw};
 pub use worked::worked_runs;
 pub use world::{World, run_script};

@@ -1,5 +1,6 @@
-use Rattle.std.proofs.Common.{refl}
+use Rattle.std.proofs.Common.{◌≢◌, refl}
 use Rattle.smbd_outside.specs.declared.status.Status.{Status}
+use Rattle.smbd_outside.specs.declared.status.Status.TheVariants.{Cut}
 use Rattle.end_workers.specs.Progress.{StaysUncut, moved}
 use Rattle.end_workers.specs.Promise.{Stream, KeepsPromise}
 use Rattle.end_workers.proofs.HandedOn.{handed-on}
@@ -33,6 +34,10 @@ returns-in_err-read_group-clause-stops g c = λ o from to log was count s.
     handed-on c.from_residual.result c.in_err-read_group.field-0.0
     (λ (status : Status). KeepsPromise status o (moved from (g.S.Source.left c.read_group.new.source) (g.S.Source.faults c.read_group.new.source)) to log) c.from_residual.ensures.1
     (c.in_err-read_group.ensures.stops o (moved from (g.S.Source.left c.loop-self.source) (g.S.Source.faults c.loop-self.source)) to log refl refl (c.loop-self.invariant.stored o from to log was count s))
+
+pub returns-in_err-read_group-clause-no_cut : goal.returns-in_err-read_group-clause-no_cut
+returns-in_err-read_group-clause-no_cut g c =
+    handed-on c.from_residual.result c.in_err-read_group.field-0.0 (λ (status : Status). status ≢ Cut) c.from_residual.ensures.1 c.in_err-read_group.ensures.no_cut
 
 pub returns-clause-reads : goal.returns-clause-reads
 returns-clause-reads g c = λ o from to log was count s.

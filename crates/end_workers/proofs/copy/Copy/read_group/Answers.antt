@@ -1,9 +1,10 @@
-use Rattle.std.proofs.Common.{List, ℕ, sym, subst, arith}
+use Rattle.std.proofs.Common.{◌≢◌, List, ℕ, sym, subst, arith}
 use Rattle.smbd_outside.specs.declared.status.Status.{Status}
+use Rattle.smbd_outside.specs.declared.status.Status.TheVariants.{Cut}
 use Rattle.end_workers.specs.Progress.{moved}
 use Rattle.end_workers.specs.Promise.{KeepsPromise}
 use Rattle.end_workers.proofs.HandedOn.{handed-on}
-use Rattle.end_workers.proofs.BytesRead.{IsNext, Takes, whole-before, may-take, bytes-on, bytes-fewer, bytes-stored, given-of, reading-stops, taking-stops}
+use Rattle.end_workers.proofs.BytesRead.{IsNext, Takes, whole-before, may-take, bytes-on, bytes-fewer, bytes-stored, given-of, not-cut, reading-stops, taking-stops}
 use Rattle.end_workers.proofs.copy.Copy.read_group.Goals as goal
 
 pub read_next-requires-clause-groups : goal.read_next-requires-clause-groups
@@ -16,6 +17,11 @@ returns-in_err-ended-clause-stops g c = λ o from to log was count s.
     (reading-stops c.args.self.now o from to log (g.S.Source.left c.args.source.now) (g.S.Source.left c.read_next.new.source) (g.S.Source.faults c.args.source.now)
     (g.S.Source.faults c.read_next.new.source) c.in_err-ended.field-0.0 c.read_next.new.bytes.items c.requires.on c.requires.wanted was count s c.read_next.ensures.read
     c.in_err-ended.ensures.few c.in_err-ended.ensures.stops)
+
+pub returns-in_err-ended-clause-no_cut : goal.returns-in_err-ended-clause-no_cut
+returns-in_err-ended-clause-no_cut g c =
+    handed-on c.from_residual.result c.in_err-ended.field-0.0 (λ (status : Status). status ≢ Cut) c.from_residual.ensures.1
+    (not-cut c.in_err-ended.field-0.0 c.args.self.now.read _ _ _ c.in_err-ended.ensures.stops)
 
 pub take_bytes-requires : goal.take_bytes-requires
 take_bytes-requires g c =

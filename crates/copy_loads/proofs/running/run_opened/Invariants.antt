@@ -1,7 +1,7 @@
 -- The copy goes on, and has moved the streams so far.
 use Rattle.end_workers.specs.Progress.{GoesOn, IsGoing}
 use Rattle.end_workers.specs.Promise.{stream_of}
-use Rattle.smbd_cli.proofs.copy.run_to_end.Given as goal
+use Rattle.copy_loads.proofs.running.run_opened.Given as goal
 
 abbrev pub invariant-loop : goal.invariant-loop
 invariant-loop g l = record {

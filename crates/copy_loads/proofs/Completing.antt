@@ -5,8 +5,7 @@ use Rattle.std.specs.Io.KnownBytes.{Appends, Consumes, IsAtEnd}
 use Rattle.smbd_outside.specs.declared.status.Status.{Status}
 use Rattle.smbd_outside.specs.declared.status.Status.TheVariants.{Done, Usage, ReadFault, WriteFault, LogFault, TooLong, Cut, BadInput, NoMemory}
 use Rattle.copy_parts.specs.declared.options.CopyOptions.{CopyOptions}
-use Rattle.smbd_cli.specs.Copies.{Succeeds}
-use Rattle.end_workers.specs.Promise.{Stream, KeepsPromise, IsFair, IsCopied}
+use Rattle.end_workers.specs.Promise.{Stream, KeepsPromise, IsFair, IsCopied, Succeeds}
 
 -- no more was read than there was
 pub read_most : (before now : Option (List ℕ)) (bytes read : List ℕ) → before ≡ Some bytes → Consumes before now read → length read ≤ length bytes

@@ -1,0 +1,4 @@
+pub mod Completing
+pub mod Opened
+pub mod Asked
+pub mod Loading
