@@ -4,6 +4,8 @@
 #[cfg(test)]
 mod lines;
 #[cfg(test)]
+mod lists;
+#[cfg(test)]
 mod runs;
 #[cfg(test)]
 mod scripts;

@@ -3,3 +3,5 @@
 
 #[cfg(test)]
 mod choices;
+#[cfg(test)]
+mod raw;
