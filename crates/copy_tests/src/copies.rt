@@ -8,7 +8,11 @@ use std::alloc::Global;
 use std::process::Abort;
 use std::sync::Wait;
 
+mod cuts;
+mod limits;
+mod loads;
 mod sim;
+mod words;
 
 /// What is said where memory is wanting.
 const MEMORY: &str = "memory for a test";
@@ -159,6 +163,7 @@ fn source_of(
     MemorySource::open(alloc, bytes, most, fails).expect(rt, MEMORY)
 }
 
+/// Runs the program on these words.
 fn copied(
     rt: &(impl Abort + Wait),
     alloc: Global,
@@ -167,12 +172,39 @@ fn copied(
     outside: Outside<'_>,
 ) -> Ran {
     let words = words_of(rt, alloc, texts);
+    ran_by(rt, alloc, &words, bytes, outside)
+}
+
+/// Runs the program on these words, and one more of this text and number.
+fn copied_with(
+    rt: &(impl Abort + Wait),
+    alloc: Global,
+    texts: &[&str],
+    option: &str,
+    number: u32,
+    bytes: &[u8],
+    outside: Outside<'_>,
+) -> Ran {
+    let mut words = words_of(rt, alloc, texts);
+    let text = format!(in alloc; "{option}{number}").expect(rt, MEMORY);
+    let word = Word::copy_of(alloc, text.as_str()).expect(rt, MEMORY);
+    words.push(word).expect(rt, MEMORY);
+    ran_by(rt, alloc, &words, bytes, outside)
+}
+
+fn ran_by(
+    rt: &(impl Abort + Wait),
+    alloc: Global,
+    words: &[Word],
+    bytes: &[u8],
+    outside: Outside<'_>,
+) -> Ran {
     let mut source = source_of(rt, alloc, bytes, outside.most, outside.source_fails);
     let (room, fails) = (outside.sink_room, outside.sink_fails);
     let mut sink = sink_of(rt, alloc, room, outside.most, fails);
     let (room, fails) = (outside.log_room, outside.log_fails);
     let mut log = sink_of(rt, alloc, room, outside.most, fails);
-    let status = run(rt, alloc, &words, &mut source, &mut sink, &mut log);
+    let status = run(rt, alloc, words, &mut source, &mut sink, &mut log);
     Ran { status, sink, log }
 }
 
@@ -486,56 +518,7 @@ fn a_fault_comes_where_it_was_asked_for(rt: HostRuntime) {
     }
 }
 
-#[test]
-fn other_words_are_refused_before_anything_is_read(rt: HostRuntime) {
-    const FAULTY: Outside<'static> = Outside {
-        source_fails: &[1],
-        ..FAIR
-    };
-    const CASES: &[&[&str]] = &[
-        &[],
-        &["show"],
-        &["copy"],
-        &["sim", "--credits"],
-        &["sim", "--credits", "2"],
-        &["sim", "--credits", "256"],
-        &["sim", "--credits", "03"],
-        &["sim", "--credits", "+3"],
-        &["sim", "--credits", "3 "],
-        &["sim", "--credits", ""],
-        &["sim", "--credits=3"],
-        &["sim", "--credits", "3", "3"],
-        &["sim", "3", "--credits"],
-        &["sim", "--send-size", "128"],
-        &["sim", "sim"],
-        &["put", "--channel"],
-        &["put", "--channel", "some"],
-        &["put", "--channel", "V1"],
-        &["put", "--chanel", "none"],
-        &["put", "--channel", "none", "none"],
-        &["put", "--workers", "0"],
-        &["put", "--workers", "9"],
-        &["get", "--workers", "02"],
-        &["get", "--workers", "2", "--workers", "2"],
-        &["get", "--workers", "2", "--channel", "none"],
-        &["get", "--channel", "v1", "--workers", "9"],
-        &["get", "put"],
-    ];
-    for &texts in CASES {
-        check_run(
-            &rt,
-            rt.alloc(),
-            texts,
-            b"abc",
-            FAULTY,
-            Status::Usage,
-            b"",
-            b"",
-        );
-    }
-}
-
-/// Each allocation of the copy, failing in turn, ends it with `NoMemory`, a front of the log and nothing in the sink
+/// Each allocation of the copy, failing in turn, ends it with `NoMemory`, a front of the log, and nothing or all of `abc` in the sink
 /// (`rt try --test --fail-alloc N`); those before the copy end the test.
 #[test]
 fn want_of_memory_ends_a_copy_with_fronts(rt: HostRuntime) {

@@ -137,6 +137,6 @@ meets k slots id c d s r wide at small = let t = together_at s.views id c d r.cl
       },
       (
         refl,
-        met_ends k c d s.words s.homes p,
+        met_ends k c' d' s.words s.homes (met_pair k c d s.words s.homes p),
       ),
     )

@@ -151,4 +151,4 @@ ViewsFit (One e) = Unit {0}
 ViewsFit (Both c d) = AreMet c d
 
 abbrev pub met : Told
-met st m r n = (n ≡ (met_view m.0, m.1)) × ViewsFit m.0
+met st m r n = (n ≡ (met_view m.0, m.1)) × ViewsFit (met_view m.0)

@@ -160,7 +160,7 @@ impl Link {
         ensures own { IsOf self.now client.new × IsOf self.now server.new }
         ensures client { known_by client.new ≡ learned (known_by client.old) (length (emitted_frames (history_of server.old))) }
         ensures server { known_by server.new ≡ learned (known_by server.old) (length (emitted_frames (history_of client.old))) }
-        ensures met { AreMet (known_by client.old) (known_by server.old) }
+        ensures met { AreMet (known_by client.new) (known_by server.new) }
     {
         let shared = &self.table.shared;
         let handed = shared.split_seat::<HandOver>(&mut server.seat);
