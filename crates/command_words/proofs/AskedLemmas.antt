@@ -10,9 +10,9 @@ use Rattle.copy_parts.specs.declared.options.CopyOptions.{CopyOptions}
 use Rattle.command_words.specs.declared.options.CopyCommand.TheVariants as copies
 use Rattle.command_words.specs.declared.options.Command.{Command}
 use Rattle.command_words.specs.declared.options.Command.TheVariants as commands
-use Rattle.command_words.specs.declared.options.Plain.TheVariants.{Sim}
+use Rattle.command_words.specs.declared.options.Plain.TheVariants.{Sim, Show}
 use Rattle.command_words.specs.Given.{Text, Given, given_of}
-use Rattle.command_words.specs.Command.{number_given, channel_given, cut_given, limits_given, options_given, copy_given, load_values, load_given, is_for_sim, sim_given, command_given, command_of}
+use Rattle.command_words.specs.Command.{number_given, channel_given, cut_given, limits_given, options_given, copy_given, load_values, load_given, is_for_sim, sim_given, is_for_show, show_given, command_given, command_of}
 use Rattle.command_words.specs.Lawful.{IsAsked}
 
 -- where two steps gave a value, the first one gave one
@@ -124,12 +124,16 @@ load-asked given = either (is_none given.cut) _ None
 sim-asked : (given : Given) → AskedIfAny (sim_given given)
 sim-asked given = either (is_for_sim given) _ None (λ _. each (λ (limits : Limits). commands.Plain (Sim limits)) (limits_given given) (λ _ _. tt)) tt
 
+show-asked : (given : Given) → AskedIfAny (show_given given)
+show-asked given = either (is_for_show given) (Some (commands.Plain Show)) None (λ _. tt) tt
+
 given-asked : (name : Text) (given : Given) → AskedIfAny (command_given name given)
 given-asked name given =
     either (bytes_eq name (codes "put")) _ _ (λ _. copy-asked kinds.Put given)
     (either (bytes_eq name (codes "get")) _ _ (λ _. copy-asked kinds.Get given)
     (either (bytes_eq name (codes "load")) _ _ (λ _. load-asked given)
-    (either (bytes_eq name (codes "sim")) _ None (λ _. sim-asked given) tt)))
+    (either (bytes_eq name (codes "sim")) _ _ (λ _. sim-asked given)
+    (either (bytes_eq name (codes "show")) _ None (λ _. show-asked given) tt))))
 
 pub asked : (words : List Text) → IfSome (command_of words) IsAsked
 asked [] = tt

@@ -10,7 +10,7 @@ use Rattle.copy_parts.specs.declared.options.CopyOptions.{CopyOptions}
 use Rattle.command_words.specs.declared.options.CopyCommand.TheVariants as copies
 use Rattle.command_words.specs.declared.options.Command.{Command}
 use Rattle.command_words.specs.declared.options.Command.TheVariants as commands
-use Rattle.command_words.specs.declared.options.Plain.TheVariants.{Sim}
+use Rattle.command_words.specs.declared.options.Plain.TheVariants.{Sim, Show}
 use Rattle.command_words.specs.Given.{Text, Given, given_of}
 
 -- the number of this range that an option's text spells, or the usual one where the option isn't given
@@ -81,6 +81,13 @@ abbrev pub sim_given : Given → Option Command
 sim_given given =
     if is_for_sim given then option_map (λ (limits : Limits). commands.Plain (Sim limits)) (limits_given given) else None
 
+-- `show`, which has no option and no other word
+abbrev pub is_for_show : Given → Bool
+is_for_show given = is_for_sim given && (is_none given.credits && is_none given.send_size)
+
+abbrev pub show_given : Given → Option Command
+show_given given = if is_for_show given then Some (commands.Plain Show) else None
+
 -- the command of this name with what is given
 abbrev pub command_given : Text → Given → Option Command
 command_given name given =
@@ -88,6 +95,7 @@ command_given name given =
     else if bytes_eq name (codes "get") then copy_given kinds.Get given
     else if bytes_eq name (codes "load") then load_given given
     else if bytes_eq name (codes "sim") then sim_given given
+    else if bytes_eq name (codes "show") then show_given given
     else None
 
 -- the command of this name with the words after it

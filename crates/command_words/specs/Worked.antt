@@ -10,7 +10,7 @@ use Rattle.copy_parts.specs.declared.options.CopyOptions.{CopyOptions}
 use Rattle.command_words.specs.declared.options.CopyCommand.TheVariants as copies
 use Rattle.command_words.specs.declared.options.Command.{Command}
 use Rattle.command_words.specs.declared.options.Command.TheVariants as commands
-use Rattle.command_words.specs.declared.options.Plain.TheVariants.{Sim}
+use Rattle.command_words.specs.declared.options.Plain.TheVariants.{Sim, Show}
 use Rattle.command_words.specs.Command.{command_of}
 
 -- the command that the words of a line name, which one space each parts
@@ -103,6 +103,13 @@ pub record SimsSo : Type 0 where
   pub cut : named "sim --cut 1" ≡ None
   pub other : named "sim 3" ≡ None
 
+pub record ShowsSo : Type 0 where
+  pub alone : named "show" ≡ Some (commands.Plain Show)
+  -- no option, and no other word
+  pub credits : named "show --credits 3" ≡ None
+  pub workers : named "show --workers=2" ≡ None
+  pub other : named "show frames" ≡ None
+
 pub record RangesSo : Type 0 where
   -- the ends of each range, and the numbers beside them
   pub workers_least : named "put --workers 1" ≡ by_workers Put 1
@@ -133,7 +140,6 @@ pub record RefusesSo : Type 0 where
   -- no command
   pub nothing : command_of [] ≡ None
   pub empty : named "" ≡ None
-  pub show : named "show" ≡ None
   pub other : named "copy" ≡ None
   pub upper : named "Put" ≡ None
   pub hyphens : named "--put" ≡ None

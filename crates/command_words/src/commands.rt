@@ -37,6 +37,9 @@ fn command_given(name: &Word, given: &Given) -> Option<Command>
     if name.is("sim") {
         return sim_given(given);
     }
+    if name.is("show") {
+        return show_given(given);
+    }
     None
 }
 
@@ -98,6 +101,16 @@ fn is_for_sim(given: &Given) -> bool
         && given.pages.is_none()
         && given.cut.is_none()
         && given.values.is_empty()
+}
+
+/// `show`, which has no option and no other word.
+fn show_given(given: &Given) -> Option<Command>
+    ensures { result ≡ spec.show_given (seen given.now) }
+{
+    if is_for_sim(given) && given.credits.is_none() && given.send_size.is_none() {
+        return Some(Command::Plain(Plain::Show));
+    }
+    None
 }
 
 /// A copy of this kind with the options that are given.

@@ -19,6 +19,8 @@ pub enum CopyCommand {
 pub enum Plain {
     /// The run of a script over two ends of these limits.
     Sim(EndLimits),
+    /// What each frame of a list says.
+    Show,
 }
 
 /// What the program is asked to do.

@@ -10,7 +10,8 @@ use Rattle.world_core.specs.Run.{run_of}
 use Rattle.sim_script.specs.Scripts.{first_bad_line, script_of}
 use Rattle.run_log.specs.RunLines.{run_lines}
 use Rattle.command_words.specs.declared.options.Plain.{Plain}
-use Rattle.command_words.specs.declared.options.Plain.TheVariants.{Sim}
+use Rattle.command_words.specs.declared.options.Plain.TheVariants.{Sim, Show}
+use Rattle.frame_lists.specs.Frames.{first_bad_frame_line, description_of}
 use Rattle.smbd_cli.specs.Input.{IsInput, CutsInput}
 use Rattle.end_workers.specs.Promise.{Stream, IsSilent}
 use Rattle.end_workers.specs.Sizes.{most_bytes}
@@ -18,11 +19,13 @@ use Rattle.end_workers.specs.Sizes.{most_bytes}
 -- the number of the first line of an input that is not understood, where there is one
 abbrev pub bad_line : Plain → List ℕ → Option ℕ
 bad_line (Sim limits) input = first_bad_line input
+bad_line Show input = first_bad_frame_line input
 
 -- What is written for an input that is understood. For a script it is the log of its run over two ends of these limits, in the
--- order of the events.
+-- order of the events; for a list of frames, what each of them says.
 abbrev pub output : Plain → List ℕ → List ℕ
 output (Sim limits) input = lines_text (run_lines (run_of limits limits (script_of input)))
+output Show input = description_of input
 
 -- the whole input was read, and it is understood
 pub record IsUnderstood (command : Plain) (source : Stream) (input : List ℕ) : Type 0 where
@@ -74,3 +77,15 @@ StopsScript WriteFault text = ⊥
 StopsScript LogFault text = ⊥
 StopsScript TooLong text = ⊥
 StopsScript Cut text = ⊥
+
+-- why a text was not described
+abbrev pub StopsList : Status → List ℕ → Type 0
+StopsList (BadInput line) text = first_bad_frame_line text ≡ Some line
+StopsList NoMemory text = Unit {0}
+StopsList Done text = ⊥
+StopsList Usage text = ⊥
+StopsList ReadFault text = ⊥
+StopsList WriteFault text = ⊥
+StopsList LogFault text = ⊥
+StopsList TooLong text = ⊥
+StopsList Cut text = ⊥

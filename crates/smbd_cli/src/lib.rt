@@ -1,4 +1,4 @@
-//! The program: its words, and the copy or the run of a script that they ask for.
+//! The program: its words, and the copy, the run of a script or the description of frames that they ask for.
 #![tactic(auto)]
 
 mod copy;

@@ -61,6 +61,10 @@ returns-clause-sims c = record {
   other = refl;
 }
 
+pub returns-clause-shows : goal.returns-clause-shows
+unfolding number_in given_of digits
+returns-clause-shows c = record { alone = refl; credits = refl; workers = refl; other = refl }
+
 pub returns-clause-ranges : goal.returns-clause-ranges
 unfolding number_in given_of digits
 returns-clause-ranges c = record {
@@ -93,7 +97,6 @@ unfolding number_in given_of digits
 returns-clause-refusals c = record {
   nothing = refl;
   empty = refl;
-  show = refl;
   other = refl;
   upper = refl;
   hyphens = refl;
