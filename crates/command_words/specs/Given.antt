@@ -1,5 +1,5 @@
 -- What the words after a command give (this project's own): options with their texts, and other words.
-use Rattle.std.specs.Prelude.{ℕ, ◌==◌, Bool, List, [], ◌∷◌, ◌++◌, codes, bytes_eq, Option, Some, None, option_map, if◌then◌else◌}
+use Rattle.std.specs.Prelude.{ℕ, ◌==◌, Bool, true, false, length, List, [], ◌∷◌, ◌++◌, codes, bytes_eq, Option, Some, None, option_map, if◌then◌else◌}
 use Rattle.std.specs.List.{list_any, before_first, after_first}
 use Rattle.event_log.specs.Reading.{◌>>=◌}
 
@@ -28,12 +28,12 @@ once (Some text) given = None
 -- what is given with the option of this name too, and its text
 abbrev pub with_option : Text → Text → Given → Option Given
 with_option name text given =
-    if bytes_eq name (codes "workers") then once given.workers (record given { workers = Some text })
-    else if bytes_eq name (codes "channel") then once given.channel (record given { channel = Some text })
-    else if bytes_eq name (codes "credits") then once given.credits (record given { credits = Some text })
-    else if bytes_eq name (codes "send-size") then once given.send_size (record given { send_size = Some text })
-    else if bytes_eq name (codes "pages") then once given.pages (record given { pages = Some text })
-    else if bytes_eq name (codes "cut") then once given.cut (record given { cut = Some text })
+    if bytes_eq (codes "workers") name then once given.workers (record given { workers = Some text })
+    else if bytes_eq (codes "channel") name then once given.channel (record given { channel = Some text })
+    else if bytes_eq (codes "credits") name then once given.credits (record given { credits = Some text })
+    else if bytes_eq (codes "send-size") name then once given.send_size (record given { send_size = Some text })
+    else if bytes_eq (codes "pages") name then once given.pages (record given { pages = Some text })
+    else if bytes_eq (codes "cut") name then once given.cut (record given { cut = Some text })
     else None
 
 abbrev pub with_value : Text → Given → Given
@@ -103,3 +103,15 @@ given_at_end (Some name) given = None
 -- what the words give, if they are well formed
 unfoldable pub given_of : List Text → Option Given
 given_of words = read_words (rested nothing_given) words >>= (λ (reading : Reading). given_at_end reading.waits reading.given)
+
+-- a word that begins with a single hyphen, and `--` alone: such a word has no place on a command line
+abbrev pub is_stray_after_hyphen : Option Text → Bool
+is_stray_after_hyphen None = true
+is_stray_after_hyphen (Some name) = length name == 0
+
+abbrev pub is_stray_by : Option Text → Bool
+is_stray_by None = false
+is_stray_by (Some rest) = is_stray_after_hyphen (after_hyphen rest)
+
+abbrev pub is_stray : Text → Bool
+is_stray word = is_stray_by (after_hyphen word)

@@ -1,5 +1,6 @@
 pub mod Command
 pub mod Given
 pub mod Lawful
+pub mod Parser
 pub mod Seen
 pub mod Worked

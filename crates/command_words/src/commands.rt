@@ -4,16 +4,23 @@ ghost use Rattle.std.specs.Prelude.{◌≡◌, ◌≤◌, IfOk, IfSome, Some};
 ghost use Rattle.smbd_base.specs.Limits.{IsWithin, usual_limits};
 ghost use Rattle.command_words.specs.Command as spec;
 ghost use Rattle.command_words.specs.Lawful.{IsAsked};
+ghost use Rattle.std.specs.List.{list_any};
+ghost use Rattle.clap.specs.Words.{found_of};
+ghost use Rattle.command_words.specs.Given.{is_stray};
+ghost use Rattle.command_words.specs.Parser.{given_found};
 ghost use Rattle.command_words.specs.Seen.{seen, text_of, texts};
 
-use crate::given::{Given, read_words};
+use crate::given::{Given, is_stray, parser_of_words};
 use crate::options::{Command, CopyCommand, Plain};
 use crate::words::Word;
+use clap::ArgMatches;
+use clap::error::ErrorKind;
 use copy_parts::CopyOptions;
 use event_log::number_in;
 use file_messages::{Channel, CopyKind};
 use smbd_base::{EndLimits, NoMemory};
 use std::alloc::Global;
+use std::convert::AsStr;
 
 /// The workers of each end where the words don't name their number.
 const USUAL_WORKERS: u8 = 4;
@@ -211,19 +218,40 @@ pub fn command_of(alloc: Global, words: &[Word]) -> Result<Option<Command>, NoMe
 }
 
 /// The command of this name with the words after it.
-#[tactic(auto, unfolding(crate::specs::Given::given_of))]
 fn command_with(alloc: Global, name: &Word, rest: &[Word]) -> Result<Option<Command>, NoMemory>
     ensures { IfOk result (λ command. command ≡ spec.command_with name.now rest.now) }
 {
-    let Some(reading) = read_words(alloc, rest)? else {
-        return Ok(None);
-    };
-    if reading.waits.is_some() {
+    if has_stray(rest) {
         return Ok(None);
     }
+    match parser_of_words(alloc)?.try_get_matches_from(rest) {
+        Ok(matches) => Ok(command_found(name, &matches)),
+        Err(error) => match error.kind() {
+            ErrorKind::OutOfMemory => Err(NoMemory),
+            _ => Ok(None),
+        },
+    }
+}
+
+/// The command of this name with what the parser found.
+fn command_found(name: &Word, matches: &ArgMatches) -> Option<Command>
+    ensures { result ≡ spec.command_given name.now (given_found (found_of matches.now)) }
+{
     let given = Given {
-        values: &reading.values,
-        ..reading.options
+        workers: matches.get_str("workers"),
+        channel: matches.get_str("channel"),
+        credits: matches.get_str("credits"),
+        send_size: matches.get_str("send-size"),
+        pages: matches.get_str("pages"),
+        cut: matches.get_str("cut"),
+        values: matches.get_strs("values").unwrap_or(&[]),
     };
-    Ok(command_given(name, &given))
+    command_given(name, &given)
+}
+
+/// Whether one of the words has no place on a command line.
+fn has_stray(words: &[Word]) -> bool
+    ensures { result ≡ list_any is_stray words.now }
+{
+    words.iter().any(|word| is_stray(word.as_str()))
 }

@@ -1,14 +1,13 @@
-//! What the words after a command give.
+//! What the words after a command give, by a parser of command lines.
 
-ghost use Rattle.std.specs.Prelude.{◌≡◌, IfOk, option_map, MatchBool, Some, None, List, ℕ};
-ghost use Rattle.std.specs.Borrow.{Bor};
-ghost use Rattle.command_words.specs.Given.{with_option, form_of, form_of_name, after_hyphen};
-ghost use Rattle.command_words.specs.Given as spec;
-ghost use Rattle.command_words.specs.Seen.{seen_with, seen_form, seen_reading, text_of};
+ghost use Rattle.std.specs.Prelude.{◌≡◌, IfOk, false};
+ghost use Rattle.clap.specs.Words.{app_of, rule_of};
+ghost use Rattle.command_words.specs.Given.{after_hyphen, is_stray};
+ghost use Rattle.command_words.specs.Parser.{option_rule, values_rule, parser_app};
+ghost use Rattle.command_words.specs.Seen.{text_of};
 
-use crate::words::Word;
-use smbd_base::NoMemory;
-use std::alloc::Global;
+use clap::{Arg, ArgAction};
+use std::alloc::{AllocError, Global};
 
 /// The text of each option, where it is given, and the words that belong to no option, in their order.
 #[derive(Clone, Copy)]
@@ -22,24 +21,16 @@ pub(crate) struct Given<'w> {
     pub values: &'w [&'w str],
 }
 
-/// What a word looks like: `--name`, `--name=text`, a word that doesn't begin with a hyphen, or one with a single hyphen in front.
-#[derive(Clone, Copy)]
-pub(crate) enum Form<'w> {
-    Named(&'w str),
-    Joined(&'w str, &'w str),
-    Plain,
-    SingleHyphen,
-}
-
-fn form_of(word: &str) -> Form<'_>
-    ensures { seen_form result ≡ form_of word.now }
+/// Whether a word begins with a single hyphen, or is `--` alone: such a word is kept from the parser, which would take some of them.
+pub(crate) fn is_stray(word: &str) -> bool
+    ensures { result ≡ is_stray word.now }
 {
     let Some(rest) = after_hyphen(word) else {
-        return Form::Plain;
+        return false;
     };
     match after_hyphen(rest) {
-        Some(rest) => form_of_name(rest),
-        None => Form::SingleHyphen,
+        Some(name) => name.is_empty(),
+        None => true,
     }
 }
 
@@ -50,156 +41,35 @@ fn after_hyphen(word: &str) -> Option<&str>
     word.strip_prefix('-')
 }
 
-/// What a word looks like, by what follows two hyphens in it.
-fn form_of_name(rest: &str) -> Form<'_>
-    ensures { seen_form result ≡ form_of_name rest.now }
+/// A parser of the words after a command: options, each at most once, and other words. It has no help and no version of its own.
+pub(crate) fn parser_of_words<'w>(alloc: Global) -> Result<clap::Command<'w>, AllocError>
+    ensures { IfOk result (λ parser. app_of parser ≡ parser_app) }
 {
-    match rest.split_once('=') {
-        Some((name, text)) => Form::Joined(name, text),
-        None => Form::Named(rest),
-    }
+    clap::Command::new(alloc, "smbd")
+        .no_binary_name(true)
+        .disable_help_flag(true)
+        .disable_version_flag(true)
+        .arg(option_of_name(alloc, "workers"))?
+        .arg(option_of_name(alloc, "channel"))?
+        .arg(option_of_name(alloc, "credits"))?
+        .arg(option_of_name(alloc, "send-size"))?
+        .arg(option_of_name(alloc, "pages"))?
+        .arg(option_of_name(alloc, "cut"))?
+        .arg(other_words(alloc))
 }
 
-/// How far words were read: what is given so far, and the option that waits for its text, where one does.
-#[derive(Drop)]
-pub(crate) struct Reading<'w> {
-    /// What is given, but for the words that belong to no option.
-    pub options: Given<'w>,
-    pub values: Vec<&'w str>,
-    pub waits: Option<&'w str>,
+/// The option `--name`, which takes one text.
+fn option_of_name<'w>(alloc: Global, name: &'w str) -> Arg<'w>
+    ensures rule { rule_of result ≡ option_rule name.entry.now }
+    ensures local { result.global ≡ false }
+{
+    Arg::new(alloc, name).long(name).action(ArgAction::Set)
 }
 
-const NOTHING_GIVEN: Given<'static> = Given {
-    workers: None,
-    channel: None,
-    credits: None,
-    send_size: None,
-    pages: None,
-    cut: None,
-    values: &[],
-};
-
-/// What is given with the option of this name too, which may not be given already.
-fn with_option<'w>(name: &str, text: &'w str, given: Given<'w>) -> Option<Given<'w>>
-    ensures { (values : List (List ℕ)) → option_map (seen_with values) result ≡ with_option name.now text.entry.now (seen_with values given.entry) }
+/// The words that belong to no option, of any number.
+fn other_words<'w>(alloc: Global) -> Arg<'w>
+    ensures rule { rule_of result ≡ values_rule }
+    ensures local { result.global ≡ false }
 {
-    match name {
-        "workers" => once(
-            given.workers,
-            Given {
-                workers: Some(text),
-                ..given
-            },
-        ),
-        "channel" => once(
-            given.channel,
-            Given {
-                channel: Some(text),
-                ..given
-            },
-        ),
-        "credits" => once(
-            given.credits,
-            Given {
-                credits: Some(text),
-                ..given
-            },
-        ),
-        "send-size" => once(
-            given.send_size,
-            Given {
-                send_size: Some(text),
-                ..given
-            },
-        ),
-        "pages" => once(
-            given.pages,
-            Given {
-                pages: Some(text),
-                ..given
-            },
-        ),
-        "cut" => once(
-            given.cut,
-            Given {
-                cut: Some(text),
-                ..given
-            },
-        ),
-        _ => None,
-    }
-}
-
-/// What is given with one more option, which may not be given already.
-fn once<'w>(already: Option<&str>, given: Given<'w>) -> Option<Given<'w>>
-    ensures { (values : List (List ℕ)) → option_map (seen_with values) result ≡ spec.once (text_of already.entry) (seen_with values given.entry) }
-{
-    match already {
-        Some(_) => None,
-        None => Some(given),
-    }
-}
-
-/// One more word, if it may stand there.
-fn read_word<'w>(reading: &mut Reading<'w>, word: &'w str) -> Result<bool, NoMemory>
-    ensures { IfOk result (λ known. MatchBool known (spec.read_word (seen_reading reading.old) word.entry.now ≡ Some (seen_reading reading.new))
-        (spec.read_word (seen_reading reading.old) word.entry.now ≡ None)) }
-{
-    let form = form_of(word);
-    let Some(name) = reading.waits else {
-        return read_form(reading, word, form);
-    };
-    match form {
-        Form::Plain => Ok(read_option(reading, name, word)),
-        _ => Ok(false),
-    }
-}
-
-/// One more word of this form, where no option waits for its text.
-fn read_form<'w>(reading: &mut Reading<'w>, word: &'w str, form: Form<'w>) -> Result<bool, NoMemory>
-    requires { reading.old.waits ≡ None }
-    ensures { IfOk result (λ known. MatchBool known
-        (spec.read_form None (seen_reading reading.old).given word.entry.now (seen_form form.entry) ≡ Some (seen_reading reading.new))
-        (spec.read_form None (seen_reading reading.old).given word.entry.now (seen_form form.entry) ≡ None)) }
-{
-    match form {
-        Form::Named(name) => reading.waits = Some(name),
-        Form::Joined(name, text) => return Ok(read_option(reading, name, text)),
-        Form::Plain => reading.values.push(word)?,
-        Form::SingleHyphen => return Ok(false),
-    }
-    Ok(true)
-}
-
-/// An option with its text, if it isn't given already.
-fn read_option<'w>(reading: &mut Reading<'w>, name: &str, text: &'w str) -> bool
-    ensures { MatchBool result
-        (option_map spec.rested (spec.with_option name.now text.entry.now (seen_reading reading.old).given) ≡ Some (seen_reading reading.new))
-        (option_map spec.rested (spec.with_option name.now text.entry.now (seen_reading reading.old).given) ≡ None) }
-{
-    let Some(options) = with_option(name, text, reading.options) else {
-        return false;
-    };
-    reading.options = options;
-    reading.waits = None;
-    true
-}
-
-pub(crate) fn read_words<'w>(
-    alloc: Global,
-    words: &'w [Word],
-) -> Result<Option<Reading<'w>>, NoMemory>
-    ensures { IfOk result (λ read. option_map seen_reading read ≡ spec.read_words (spec.rested spec.nothing_given) words.entry.now) }
-{
-    let mut reading = Reading {
-        options: NOTHING_GIVEN,
-        values: Vec::new(alloc),
-        waits: None,
-    };
-    for word in words {
-        if !read_word(&mut reading, word.text())? {
-            return Ok(None);
-        }
-    }
-    Ok(Some(reading))
+    Arg::new(alloc, "values").action(ArgAction::Append)
 }

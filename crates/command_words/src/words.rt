@@ -4,6 +4,7 @@ ghost use Rattle.std.specs.Prelude.{◌≡◌, bytes_eq, IfOk};
 
 use smbd_base::NoMemory;
 use std::alloc::Global;
+use std::convert::AsStr;
 use std::marker::Model;
 
 /// A word of the command line, after the program's name. Contracts see the list of its bytes.
@@ -30,16 +31,18 @@ impl Word {
         })
     }
 
-    pub(crate) fn text(&self) -> &str
-        ensures { result.now ≡ self.now }
-    {
-        self.text.as_str()
-    }
-
     /// Whether the word has this text.
     pub(crate) fn is(&self, text: &str) -> bool
         ensures { result ≡ bytes_eq self.now text.now }
     {
         self.text.as_bytes() == text.as_bytes()
+    }
+}
+
+impl AsStr for Word {
+    ghost text = { λ w. w };
+
+    fn as_str(&self) -> &str {
+        self.text.as_str()
     }
 }
