@@ -9,6 +9,7 @@ use std::process::Abort;
 use std::sync::Wait;
 
 mod cuts;
+mod frames;
 mod limits;
 mod loads;
 mod sim;

@@ -9,7 +9,8 @@ use std::process::Abort;
 const REFUSED: &[&[&str]] = &[
     &[],
     &["copy"],
-    &["show"],
+    &["show", "frames"],
+    &["show", "--credits", "3"],
     &["Put"],
     &["--put"],
     &["put", "put"],
