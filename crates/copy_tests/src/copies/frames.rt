@@ -21,7 +21,7 @@ fn frames_are_described(rt: HostRuntime) {
         (b"", b""),
         (
             b"S ff0001000000000000000000180000000300000000000000616263",
-            b"S fault Version\n",
+            b"S fault Short\n",
         ),
         (
             b"C 00\nS 00\nC FF0001000000000000000000180000000300000000000000616263\n",
