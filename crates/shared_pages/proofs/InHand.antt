@@ -1,0 +1,57 @@
+-- A pass has a page in hand: what it may do with it, and what it knows afterwards.
+use Rattle.std.proofs.Common.{◌≡◌, ℕ, zero, suc, ◌<◌, List, [], ◌∷◌, length, set, sym, refl, ap, ◌∙◌, subst}
+use mathlib.Core.Option.{some}
+use lib.ListN.{get_elem?}
+use Rattle.smbd_base.specs.declared.page_event.PageEvent.{PageEvent}
+use Rattle.smbd_base.specs.Pages.{PageState, IsPageStep, page_in, page_after}
+use Rattle.shared_pages.specs.declared.view.Sight.{Sight}
+use Rattle.shared_pages.specs.declared.view.Hold.TheVariants.{Free}
+use Rattle.shared_pages.specs.declared.view.View.TheVariants.{One}
+use Rattle.shared_pages.specs.Rule.{Log, Sat, most_events, sight_of, holding, gave, let_go}
+use Rattle.shared_pages.specs.Calls.{MayMake, IsInHand, MayGive, MayLetGo, with_log, with_event}
+
+-- a pass at rest
+pub rests_by : (me : Sat) (w : Sight) → me ≡ (One w, []) → w.hold ≡ Free → (me ≡ (One (sight_of me.0), [])) × ((sight_of me.0).hold ≡ Free)
+rests_by me w e free = (e ∙ (λ i. (One (sight_of (sym e i).0), [])), ap (λ (m : Sat). (sight_of m.0).hold) e ∙ free)
+
+set-set : {A : Type 0} (xs : List A) (i : ℕ) (a b : A) → set (set xs i a) i b ≡ set xs i b
+set-set [] i a b = refl
+set-set (x ∷ xs) zero a b = refl
+set-set (x ∷ xs) (suc i) a b = λ j. x ∷ set-set xs i a b j
+
+module _ (first page count : ℕ) (old new : Sat) (content : PageState) (h : IsInHand first page old new count content) where
+  abbrev v : Sight
+  v = sight_of old.0
+
+  pub may_let_go : MayLetGo first page new count content
+  may_let_go = record { log = h.log; sight = holding v page h.log; seat = h.seat; hold = refl; seen = h.seen; stands = h.stands; counted = h.counted }
+
+  pub may_give : (event : PageEvent) (after : PageState) → page_in event ≡ page → IsPageStep event content → after ≡ page_after event content → MayMake v page
+      → MayGive first page event new count after
+  may_give event after on step is few = record {
+    log = h.log;
+    sight = holding v page h.log;
+    seat = h.seat;
+    hold = refl;
+    seen = h.seen;
+    on = on;
+    step = subst (IsPageStep event) h.stands step;
+    after = is ∙ ap (page_after event) h.stands;
+    counted = h.counted;
+    countable = h.countable;
+    few = subst (λ (z : Log). length z < most_events) (sym (h.life.own h.before h.had)) (few h.before h.had);
+  }
+
+  sight : sight_of new.0 ≡ holding v page h.log
+  sight = ap (λ (m : Sat). sight_of m.0) h.seat
+
+  pub let_go-seat : (me : Sat) → me ≡ (One (let_go (sight_of new.0)), []) → v.hold ≡ Free → me ≡ (One (with_log v page h.log), [])
+  let_go-seat me is free = is ∙ ap (λ (w : Sight). (One (let_go w), [])) sight
+      ∙ (λ i. (One (record { number = v.number; seen = set v.seen page h.log; other = v.other; hold = sym free i; refusals = v.refusals }), []))
+
+  pub given-seat : (event : PageEvent) (me : Sat)
+      → ((l : Log) → get_elem? (sight_of new.0).seen page ≡ some l → me ≡ (One (gave (sight_of new.0) page ((record { pass = (sight_of new.0).number; event = event }) ∷ l)), []))
+      → v.hold ≡ Free → me ≡ (One (with_log v page (with_event v event h.log)), [])
+  given-seat event me given free =
+      subst (λ (w : Sight). (l : Log) → get_elem? w.seen page ≡ some l → me ≡ (One (gave w page ((record { pass = w.number; event = event }) ∷ l)), [])) sight given h.log h.seen
+      ∙ (λ i. (One (record { number = v.number; seen = set-set v.seen page h.log (with_event v event h.log) i; other = v.other; hold = sym free i; refusals = v.refusals }), []))

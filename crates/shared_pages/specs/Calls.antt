@@ -1,0 +1,117 @@
+-- What the calls of a pool tell a pass.
+use Rattle.std.specs.Prelude.{◌≡◌, ◌≢◌, ℕ, ◌+◌, ◌<◌, List, [], ◌∷◌, length, replicate, slice_set, None}
+use mathlib.Core.Option.{some}
+use lib.ListN.{get_elem?}
+use Rattle.smbd_base.specs.declared.page_event.PageEvent.{PageEvent}
+use Rattle.smbd_base.specs.Pages.{PageState, IsPageLife, IsPageStep, page_in, page_state, page_after}
+use Rattle.shared_pages.specs.declared.view.Opening.{Opening}
+use Rattle.shared_pages.specs.declared.view.Sight.{Sight}
+use Rattle.shared_pages.specs.declared.view.Hold.TheVariants.{Has}
+use Rattle.shared_pages.specs.declared.view.View.TheVariants.{One}
+use Rattle.shared_pages.specs.declared.pages.Pages.{Pages}
+use Rattle.shared_pages.specs.declared.page_pass.PagePass.{PagePass}
+use Rattle.shared_pages.specs.declared.answers.Load.{Load}
+use Rattle.shared_pages.specs.declared.answers.Access.{Access}
+use Rattle.shared_pages.specs.declared.answers.Access.TheVariants as access
+use Rattle.smbd_base.specs.declared.right.Right.{Right}
+use Rattle.smbd_base.specs.declared.page_event.PageEvent.TheVariants as events
+use Rattle.shared_pages.specs.Answers.{load_answer, IfLoaded, OnRefused}
+use Rattle.shared_pages.specs.Rule.{Log, Sat, Ends, made_by, mark, most_events, sight_of, holding, new_sight}
+
+-- what a pass knows
+abbrev pub known_by : PagePass → Sight
+known_by pass = sight_of pass.seat.me.0
+
+-- how the pool was opened
+abbrev pub opening_of : Pages → Opening
+opening_of pages = pages.table.shared.key
+
+-- it is a pass of this pool
+abbrev pub IsOf : Pages → PagePass → Type 0
+IsOf pages pass = pass.seat.table_id ≡ pages.table.shared.table_id
+
+-- a pass of this number that was just made: it has seen nothing
+abbrev pub IsNew : Pages → ℕ → PagePass → Type 0
+IsNew pages n pass = IsOf pages pass × (known_by pass ≡ new_sight n (replicate (opening_of pages).pages []))
+
+-- passes that were just made, with the numbers from this one on
+abbrev pub AreNew : Pages → ℕ → List PagePass → Type 0
+AreNew pages n [] = Unit {0}
+AreNew pages n (pass ∷ passes) = IsNew pages n pass × AreNew pages (n + 1) passes
+
+-- the pass has seen this of the page's life
+abbrev pub HasSeen : Sight → ℕ → Log → Type 0
+HasSeen v page log = get_elem? v.seen page ≡ some log
+
+-- the pass made fewer than 2 ^ 57 events on the page
+abbrev pub MayMake : Sight → ℕ → Type 0
+MayMake v page = (log : Log) → HasSeen v page log → length (made_by v.number log) < most_events
+
+-- The life of a page up to a call, after what the pass had seen of it. The pass made no entry meanwhile.
+pub record IsLifeAfter (first page : ℕ) (v : Sight) (log : Log) : Type 0 where
+  pub lawful : IsPageLife first page log
+  pub extends : (older : Log) → HasSeen v page older → Ends older log
+  pub own : (older : Log) → HasSeen v page older → made_by v.number log ≡ made_by v.number older
+
+-- the page is in the hands of the pass, which has seen its life up to here
+pub record IsInHand (first page : ℕ) (old new : Sat) (count : ℕ) (content : PageState) : Type 0 where
+  pub log : Log
+  pub life : IsLifeAfter first page (sight_of old.0) log
+  pub seat : new ≡ (One (holding (sight_of old.0) page log), (page, None) ∷ [])
+  pub counted : count ≡ length log
+  pub stands : content ≡ page_state first log
+  pub countable : length log + 1 < mark
+  pub seen : HasSeen (holding (sight_of old.0) page log) page log
+  pub before : Log
+  pub had : HasSeen (sight_of old.0) page before
+
+-- the page may be given back with the event
+pub record MayGive (first page : ℕ) (event : PageEvent) (me : Sat) (count : ℕ) (content : PageState) : Type 0 where
+  pub log : Log
+  pub sight : Sight
+  pub seat : me ≡ (One sight, (page, None) ∷ [])
+  pub hold : sight.hold ≡ Has page
+  pub seen : HasSeen sight page log
+  pub on : page_in event ≡ page
+  pub step : IsPageStep event (page_state first log)
+  pub after : content ≡ page_after event (page_state first log)
+  pub counted : count ≡ length log
+  pub countable : length log + 1 < mark
+  pub few : length (made_by sight.number log) < most_events
+
+-- the page may be given back as it was
+pub record MayLetGo (first page : ℕ) (me : Sat) (count : ℕ) (content : PageState) : Type 0 where
+  pub log : Log
+  pub sight : Sight
+  pub seat : me ≡ (One sight, (page, None) ∷ [])
+  pub hold : sight.hold ≡ Has page
+  pub seen : HasSeen sight page log
+  pub stands : content ≡ page_state first log
+  pub counted : count ≡ length log
+
+-- what a pass knows once it has seen this of the page's life
+abbrev pub with_log : Sight → ℕ → Log → Sight
+with_log v page log = record v { seen = slice_set v.seen page log }
+
+-- the entry of the event, after this life
+abbrev pub with_event : Sight → PageEvent → Log → Log
+with_event v event log = (record { pass = v.number; event = event }) ∷ log
+
+-- What a load that isn't Busy tells its pass: it has seen the page's life up to the call, and the answer is that of the state
+-- that this life leaves. Where the page was loaded, the life goes on with that step, else it stays.
+pub record LoadTells (first page : ℕ) (right : Right) (bytes : List ℕ) (old new : Sight) (result : Load) : Type 0 where
+  pub log : Log
+  pub life : IsLifeAfter first page old log
+  pub answer : result ≡ load_answer page (page_state first log)
+  pub loaded : IfLoaded result (λ token. IsPageStep (events.Load token right bytes) (page_state first log)
+      × (new ≡ with_log old page (with_event old (events.Load token right bytes) log)))
+  pub refused : OnRefused result (new ≡ with_log old page log)
+
+-- The same for an access, whose event follows from the state that was found.
+pub record AccessTells (first page : ℕ) (event : PageState → PageEvent) (answer_at : PageState → Access) (old new : Sight) (result : Access) : Type 0 where
+  pub log : Log
+  pub life : IsLifeAfter first page old log
+  pub answer : result ≡ answer_at (page_state first log)
+  pub done : result ≡ access.Done → IsPageStep (event (page_state first log)) (page_state first log)
+      × (new ≡ with_log old page (with_event old (event (page_state first log)) log))
+  pub refused : result ≢ access.Done → new ≡ with_log old page log

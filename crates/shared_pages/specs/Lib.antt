@@ -1,0 +1,5 @@
+pub mod Answers
+pub mod Calls
+pub mod Rule
+pub mod Slots
+pub mod Steps

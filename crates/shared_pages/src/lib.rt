@@ -1,0 +1,18 @@
+//! A pool of pages that many threads share, without a lock.
+//!
+//! Each page has a word, which counts the entries of its life or says that a pass has it in hand, and a slot with its
+//! content. A call takes the page out with one swap, does its step, and gives it back; none waits.
+#![tactic(auto)]
+
+mod answers;
+mod calls;
+mod page_pass;
+mod pages;
+mod plays;
+mod slot;
+mod view;
+
+pub use answers::{Access, Load};
+pub use page_pass::{PagePass, Passes};
+pub use pages::Pages;
+pub use view::{Hold, Made, Opening, Sight, View};
