@@ -6,32 +6,19 @@ use Rattle.smbd_base.specs.declared.event.Event.TheVariants.{Post, Submit, Emit,
 use Rattle.smbd_base.specs.declared.next.Next.{Next}
 use Rattle.smbd_base.specs.declared.next.Next.TheVariants as due
 use Rattle.smbd_base.specs.declared.faults.SubmitFault.{SubmitFault}
-use Rattle.smbd_base.specs.Limits.{IsLawful}
-use Rattle.smbd_base.specs.Counts.{peer_of}
 use Rattle.smbd_base.specs.Delivery.{messages_delivered, message_brought}
 use Rattle.smbd_base.specs.History.{next_event, submit_fault, take_fault, is_cut, is_ready, messages_submitted}
 use Rattle.smbd_base.specs.Joint.{emitted_frames, taken_frames}
 use Rattle.joint_laws.specs.Growth.{IsNextFrame, MayAdd}
-use Rattle.joint_laws.specs.Halves.{AreBeside}
 use Rattle.joint_laws.proofs.Growing.{grown}
 use Rattle.world_core.specs.declared.choice.Choice.{Choice}
 use Rattle.world_core.specs.declared.choice.Choice.TheVariants as choices
 use Rattle.world_core.specs.Linked.{Linked, driven, arrival, event_of_choice, event_at, still_arriving, frames_in, still_undelivered, messages_in, own_after, peer_after, StandsFirst, TakesNext}
 use Rattle.world_core.specs.Newest.{newest_brought}
+use Rattle.world_core.specs.Paired.{IsPair}
 use Rattle.smbd_base.proofs.DeliveryLemmas.{delivered-take}
 use Rattle.smbd_laws.proofs.Accepting.{accepted_legal}
 use Rattle.smbd_laws.proofs.Delivering.{delivered_both}
-
--- an end with its peer, the frames in flight to each, and the messages that are kept for each
-pub record IsPair (own peer : Linked) : Type 0 where
-  pub peer_side : peer.side ≡ peer_of own.side
-  pub own_lawful : IsLawful own.limits
-  pub peer_lawful : IsLawful peer.limits
-  pub beside : AreBeside own.side own.limits peer.limits own.past peer.past
-  pub to_own : emitted_frames peer.past ≡ taken_frames own.past ++ own.arriving
-  pub to_peer : emitted_frames own.past ≡ taken_frames peer.past ++ peer.arriving
-  pub for_own : messages_submitted peer.past ≡ messages_delivered own.side own.limits own.past ++ own.undelivered
-  pub for_peer : messages_submitted own.past ≡ messages_delivered peer.side peer.limits peer.past ++ peer.undelivered
 
 -- the oldest frame in flight is not refused
 pub accepted : (own peer : Linked) (frame : List ℕ) (later : List (List ℕ)) → IsPair own peer → own.arriving ≡ frame ∷ later

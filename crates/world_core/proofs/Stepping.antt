@@ -16,18 +16,18 @@ use Rattle.joint_laws.proofs.Growing.{client_beside, turned, turned_back, joint,
 use Rattle.world_core.specs.declared.choice.Choice.{Choice}
 use Rattle.world_core.specs.declared.choice.Step.{Step}
 use Rattle.world_core.specs.Choices.{end_of}
-use Rattle.world_core.specs.Linked.{Linked, event_at, own_after, peer_after, TakesNext}
-use Rattle.world_core.specs.Paired.{state_of, ArePaired}
+use Rattle.world_core.specs.Linked.{Linked, event_at, own_after, peer_after}
+use Rattle.world_core.specs.Paired.{state_of, ArePaired, IsPair}
 use Rattle.world_core.specs.Run.{State, linked_of, frames_in_flight, messages_left, event_chosen, link_after, order_after, state_after, step_of, AreDelivered}
 use Rattle.smbd_laws.proofs.Delivering.{server_delivers, client_delivers}
-use Rattle.world_core.proofs.Pairing.{IsPair, takes_next, pair_after}
+use Rattle.world_core.proofs.Pairing.{pair_after}
 
 -- ---- a client and a server
 
 beside_at : (x y : EndId) (own_limits peer_limits : Limits) (own peer : List Event) → x ≡ y → AreBeside x own_limits peer_limits own peer → AreBeside y own_limits peer_limits own peer
 beside_at x y own_limits peer_limits own peer is h = subst (λ (z : EndId). AreBeside z own_limits peer_limits own peer) is h
 
-client_pair : (client server : Linked) → ArePaired client server → IsPair client server
+pub client_pair : (client server : Linked) → ArePaired client server → IsPair client server
 client_pair client server h = record {
   peer_side = h.server_side ∙ ap peer_of (sym h.client_side);
   own_lawful = h.client_lawful;
@@ -40,7 +40,7 @@ client_pair client server h = record {
   for_peer = h.for_server;
 }
 
-server_pair : (client server : Linked) → ArePaired client server → IsPair server client
+pub server_pair : (client server : Linked) → ArePaired client server → IsPair server client
 server_pair client server h = record {
   peer_side = h.client_side ∙ ap peer_of (sym h.server_side);
   own_lawful = h.server_lawful;
@@ -82,12 +82,6 @@ paired_server client server is is' h = record {
   for_client = h.for_peer;
   for_server = h.for_own;
 }
-
-pub client_takes_next : (client server : Linked) → ArePaired client server → TakesNext client
-client_takes_next client server h = takes_next client server (client_pair client server h)
-
-pub server_takes_next : (client server : Linked) → ArePaired client server → TakesNext server
-server_takes_next client server h = takes_next server client (server_pair client server h)
 
 pub delivered : (client server : Linked) (link_cut : Bool) (order : List EndId) → ArePaired client server → AreDelivered (state_of client server link_cut order)
 delivered client server link_cut order h = record {

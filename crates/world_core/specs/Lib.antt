@@ -1,6 +1,8 @@
 pub mod Choices
 pub mod Linked
 pub mod Run
+pub mod Met
+pub mod Attached
 pub mod Kept
 pub mod Newest
 pub mod Paired

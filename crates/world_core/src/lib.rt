@@ -4,6 +4,7 @@
 
 mod choice;
 mod linked_end;
+mod met_link;
 mod raw;
 mod raw_end;
 mod worked;

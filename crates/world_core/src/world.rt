@@ -5,21 +5,25 @@ ghost use Rattle.smbd_base.specs.declared.end_id.EndId.TheVariants as side;
 ghost use Rattle.smbd_base.specs.Delivery.{messages_delivered};
 ghost use Rattle.smbd_base.specs.Limits.{IsLawful};
 ghost use Rattle.smbd_base.specs.History.{is_cut, next_event};
-ghost use Rattle.world_core.specs.Choices.{answer_of, end_of, is_emit};
-ghost use Rattle.world_core.specs.Linked.{event_at, own_after, peer_after, TakesNext};
+ghost use Rattle.world_core.specs.Choices.{answer_of, cuts_link, end_of, is_emit};
+ghost use Rattle.world_core.specs.Attached.{linked_to, AreTied};
+ghost use Rattle.world_core.specs.Linked.{event_at, own_after, peer_after};
+ghost use Rattle.world_core.specs.Paired.{IsPair};
 ghost use Rattle.world_core.specs.Newest.{newest_brought};
 ghost use Rattle.world_core.specs.Run.{State, past_of, limits_of, event_chosen, step_of, opened_world, run_of, link_after, order_after, AreJointIn, AreDelivered};
 
 use crate::choice::{Choice, Step};
 use crate::linked_end::{LinkedEnd, act};
+use crate::met_link::MetLink;
 use smbd_base::{EndId, EndLimits, Event, Message, NoMemory};
 use std::alloc::Global;
 use std::marker::Model;
 
-/// A client and a server that lend each other their frames. Contracts see the limits and the past of both, the newest event
+/// A client and a server on one link, which meet after each event. Contracts see the limits and the past of both, the newest event
 /// first, whether the link is cut, and whose event each one was, the newest one first.
 #[derive(Drop)]
 pub struct World {
+    link: MetLink,
     client: LinkedEnd,
     server: LinkedEnd,
     link_cut: bool,
@@ -29,13 +33,14 @@ pub struct World {
 impl Model for World {
     ghost use Rattle.std.specs.Prelude.{reverse};
     ghost use Rattle.world_core.specs.Run.{State};
+    ghost use Rattle.world_core.specs.Attached.{linked_to, AreTied};
     ghost use Rattle.world_core.specs.Paired.{state_of, ArePaired};
 
     ghost Value = { State };
 
-    ghost view = { λ w. state_of w.client w.server w.link_cut (reverse w.order.items) };
+    ghost view = { λ w. state_of (linked_to w.client w.server) (linked_to w.server w.client) w.link_cut (reverse w.order.items) };
 
-    ghost invariant = { λ w. ArePaired w.client w.server };
+    ghost invariant = { λ w. ArePaired (linked_to w.client w.server) (linked_to w.server w.client) × AreTied w.link w.client w.server w.link_cut };
 }
 
 impl World {
@@ -48,11 +53,13 @@ impl World {
         let mut order = Vec::with_capacity(alloc, 2)?;
         order.push_reserved(EndId::Client);
         order.push_reserved(EndId::Server);
+        let link = MetLink::open(alloc, &client, &server)?;
         let client = LinkedEnd::open(alloc, EndId::Client, client)?;
         let server = LinkedEnd::open(alloc, EndId::Server, server)?;
         let _ = client.history();
         let _ = server.history();
         Ok(World {
+            link,
             client,
             server,
             link_cut: false,
@@ -70,6 +77,7 @@ impl World {
     {
         match choice.end() {
             EndId::Client => record_act(
+                &mut self.link,
                 &mut self.client,
                 &mut self.server,
                 &mut self.link_cut,
@@ -77,6 +85,7 @@ impl World {
                 choice,
             ),
             EndId::Server => record_act(
+                &mut self.link,
                 &mut self.server,
                 &mut self.client,
                 &mut self.link_cut,
@@ -149,30 +158,43 @@ impl World {
 
 /// Does what a choice says at one end, and records whose event it was.
 fn record_act(
+    link: &mut MetLink,
     own: &mut LinkedEnd,
     peer: &mut LinkedEnd,
     link_cut: &mut bool,
     order: &mut Vec<EndId>,
     choice: &Choice,
 ) -> Result<Step, NoMemory>
-    requires { TakesNext own.old }
-    ensures answer { IfOk result (λ s. s ≡ answer_of (event_at own.old link_cut.old choice.now)) }
-    ensures own { OnOk result (own.new ≡ own_after own.old (event_at own.old link_cut.old choice.now)) }
-    ensures peer { OnOk result (peer.new ≡ peer_after peer.old (event_at own.old link_cut.old choice.now)) }
-    ensures link { OnOk result (link_cut.new ≡ link_after link_cut.old choice.now (event_at own.old link_cut.old choice.now)) }
-    ensures order { OnOk result (reverse order.new.items ≡ order_after (reverse order.old.items) choice.now (event_at own.old link_cut.old choice.now)) }
-    ensures own_same { OnErr result (own.new ≡ own.old) }
-    ensures peer_same { OnErr result (peer.new ≡ peer.old) }
+    requires pair { IsPair (linked_to own.old peer.old) (linked_to peer.old own.old) }
+    requires tied { AreTied link.old own.old peer.old link_cut.old }
+    ensures answer { IfOk result (λ s. s ≡ answer_of (event_at (linked_to own.old peer.old) link_cut.old choice.now)) }
+    ensures own { OnOk result (linked_to own.new peer.new ≡ own_after (linked_to own.old peer.old) (event_at (linked_to own.old peer.old) link_cut.old choice.now)) }
+    ensures peer { OnOk result (linked_to peer.new own.new ≡ peer_after (linked_to peer.old own.old) (event_at (linked_to own.old peer.old) link_cut.old choice.now)) }
+    ensures link { OnOk result (link_cut.new ≡ link_after link_cut.old choice.now (event_at (linked_to own.old peer.old) link_cut.old choice.now)) }
+    ensures order { OnOk result (reverse order.new.items ≡ order_after (reverse order.old.items) choice.now (event_at (linked_to own.old peer.old) link_cut.old choice.now)) }
+    ensures own_same { OnErr result (linked_to own.new peer.new ≡ linked_to own.old peer.old) }
+    ensures peer_same { OnErr result (linked_to peer.new own.new ≡ linked_to peer.old own.old) }
     ensures link_same { OnErr result (link_cut.new ≡ link_cut.old) }
     ensures order_same { OnErr result (order.new.items ≡ order.old.items) }
+    ensures tied { AreTied link.new own.new peer.new link_cut.new }
 {
     order.reserve(1)?;
-    let step = act(own, peer, *link_cut, choice)?;
-    if step == Step::Did {
-        order.push_reserved(choice.end());
-        *link_cut = *link_cut || choice.cuts_link();
+    let step = act(link, own, peer, *link_cut, choice)?;
+    match step {
+        Step::Did => {
+            order.push_reserved(choice.end());
+            *link_cut = is_cut_after(*link_cut, choice);
+        }
+        Step::Nothing => {}
     }
     Ok(step)
+}
+
+/// Whether the link is cut once a choice was made.
+fn is_cut_after(link_cut: bool, choice: &Choice) -> bool
+    ensures { result ≡ (link_cut || cuts_link choice.now) }
+{
+    link_cut || choice.cuts_link()
 }
 
 /// The world after these choices, one after another.
