@@ -1,5 +1,5 @@
 -- A pass has a page in hand: what it may do with it, and what it knows afterwards.
-use Rattle.std.proofs.Common.{◌≡◌, ℕ, zero, suc, ◌<◌, List, [], ◌∷◌, length, set, sym, refl, ap, ◌∙◌, subst}
+use Rattle.std.proofs.Common.{◌≤◌, ◌+◌, arith, ◌≡◌, ℕ, zero, suc, List, [], ◌∷◌, length, set, sym, refl, ap, ◌∙◌, subst}
 use mathlib.Core.Option.{some}
 use lib.ListN.{get_elem?}
 use Rattle.smbd_base.specs.declared.page_event.PageEvent.{PageEvent}
@@ -7,7 +7,7 @@ use Rattle.smbd_base.specs.Pages.{PageState, IsPageStep, page_in, page_after}
 use Rattle.shared_pages.specs.declared.view.Sight.{Sight}
 use Rattle.shared_pages.specs.declared.view.Hold.TheVariants.{Free}
 use Rattle.shared_pages.specs.declared.view.View.TheVariants.{One}
-use Rattle.shared_pages.specs.Rule.{Log, Sat, most_events, sight_of, holding, gave, let_go}
+use Rattle.shared_pages.specs.Rule.{Log, Sat, sight_of, holding, gave, let_go}
 use Rattle.shared_pages.specs.Calls.{MayMake, IsInHand, MayGive, MayLetGo, with_log, with_event}
 
 -- a pass at rest
@@ -26,7 +26,7 @@ module _ (first page count : ℕ) (old new : Sat) (content : PageState) (h : IsI
   pub may_let_go : MayLetGo first page new count content
   may_let_go = record { log = h.log; sight = holding v page h.log; seat = h.seat; hold = refl; seen = h.seen; stands = h.stands; counted = h.counted }
 
-  pub may_give : (event : PageEvent) (after : PageState) → page_in event ≡ page → IsPageStep event content → after ≡ page_after event content → MayMake v page
+  pub may_give : (event : PageEvent) (after : PageState) → page_in event ≡ page → IsPageStep event content → after ≡ page_after event content → MayMake v
       → MayGive first page event new count after
   may_give event after on step is few = record {
     log = h.log;
@@ -39,7 +39,7 @@ module _ (first page count : ℕ) (old new : Sat) (content : PageState) (h : IsI
     after = is ∙ ap (page_after event) h.stands;
     counted = h.counted;
     countable = h.countable;
-    few = subst (λ (z : Log). length z < most_events) (sym (h.life.own h.before h.had)) (few h.before h.had);
+    few = let most = h.few in omega arith;
   }
 
   sight : sight_of new.0 ≡ holding v page h.log
@@ -47,11 +47,17 @@ module _ (first page count : ℕ) (old new : Sat) (content : PageState) (h : IsI
 
   pub let_go-seat : (me : Sat) → me ≡ (One (let_go (sight_of new.0)), []) → v.hold ≡ Free → me ≡ (One (with_log v page h.log), [])
   let_go-seat me is free = is ∙ ap (λ (w : Sight). (One (let_go w), [])) sight
-      ∙ (λ i. (One (record { number = v.number; seen = set v.seen page h.log; other = v.other; hold = sym free i; refusals = v.refusals }), []))
+      ∙ (λ i. (One (record { number = v.number; made = v.made; seen = set v.seen page h.log; other = v.other; hold = sym free i; refusals = v.refusals }), []))
 
   pub given-seat : (event : PageEvent) (me : Sat)
-      → ((l : Log) → get_elem? (sight_of new.0).seen page ≡ some l → me ≡ (One (gave (sight_of new.0) page ((record { pass = (sight_of new.0).number; event = event }) ∷ l)), []))
-      → v.hold ≡ Free → me ≡ (One (with_log v page (with_event v event h.log)), [])
+      → ((l : Log) → get_elem? (sight_of new.0).seen page ≡ some l → me ≡ (One (gave (sight_of new.0) page event l), []))
+      → v.hold ≡ Free → me ≡ (One (with_event v page event h.log), [])
   given-seat event me given free =
-      subst (λ (w : Sight). (l : Log) → get_elem? w.seen page ≡ some l → me ≡ (One (gave w page ((record { pass = w.number; event = event }) ∷ l)), [])) sight given h.log h.seen
-      ∙ (λ i. (One (record { number = v.number; seen = set-set v.seen page h.log (with_event v event h.log) i; other = v.other; hold = sym free i; refusals = v.refusals }), []))
+      subst (λ (w : Sight). (l : Log) → get_elem? w.seen page ≡ some l → me ≡ (One (gave w page event l), [])) sight given h.log h.seen
+      ∙ (λ i. (One (record { number = v.number; made = event ∷ v.made; seen = set-set v.seen page h.log ((record { pass = v.number; event = event }) ∷ h.log) i; other = v.other; hold = sym free i; refusals = v.refusals }), []))
+
+  -- it has made one event more
+  pub given-few : (event : PageEvent) (me : Sat)
+      → ((l : Log) → get_elem? (sight_of new.0).seen page ≡ some l → me ≡ (One (gave (sight_of new.0) page event l), []))
+      → v.hold ≡ Free → length (sight_of me.0).made ≤ length v.made + 1
+  given-few event me given free = let count = ap (λ (m : Sat). length (sight_of m.0).made) (given-seat event me given free) in omega arith

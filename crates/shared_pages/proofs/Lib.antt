@@ -1,7 +1,13 @@
 pub mod Answering
+pub mod Fitting
 pub mod Holding
 pub mod InHand
+pub mod Learning
 pub mod Logs
+pub mod Making
 pub mod Meeting
 pub mod Opened
+pub mod Parts
 pub mod Passing
+pub mod StepAnswers
+pub mod Sweeping

@@ -119,7 +119,8 @@ one_longer n a b l x y e = dite (dec_le (length a) (length b))
 
 -- the longer lists are those of the logs, and have all that the pass made
 pub longest_fits : (n : ℕ) (xs ys ls : List Log) → AllEnd xs ls → AllEnd ys ls → AllSeen n xs ls → AllEnd (longest xs ys) ls × AllSeen n (longest xs ys) ls × AllCompare xs ys
-longest_fits n [] ys [] x y z = (tt, tt, tt)
+longest_fits n [] [] [] x y z = (tt, tt, tt)
+longest_fits n [] (b ∷ ys) [] x y z = absurd y
 longest_fits n [] ys (l ∷ ls) x y z = absurd x
 longest_fits n (a ∷ xs) ys [] x y z = absurd x
 longest_fits n (a ∷ xs) [] (l ∷ ls) x y z = absurd y
@@ -159,5 +160,5 @@ below-most zero m l few = let h = below-none l in omega arith
 below-most (suc k) m l few = let h = below-most k m l few in let more = below-suc k l in let own = few k in omega arith
 
 -- a page's entries can be counted
-pub bounded : (l : Log) → AreMadeBy most_passes l → ((n : ℕ) → length (made_by n l) ≤ most_events) → length l + 1 < mark
-bounded l made few = let all = below-all most_passes l made in let most = below-most most_passes most_events l few in omega arith
+pub bounded : (seats : ℕ) (l : Log) → seats ≤ most_passes → AreMadeBy seats l → ((n : ℕ) → length (made_by n l) ≤ most_events) → length l + 1 < mark
+bounded seats l fits made few = let all = below-all seats l made in let most = below-most seats most_events l few in omega arith

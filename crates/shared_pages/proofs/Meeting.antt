@@ -11,37 +11,61 @@ use Rattle.shared_pages.specs.declared.view.Hold.TheVariants.{Free}
 use Rattle.shared_pages.specs.declared.view.Sight.{Sight}
 use Rattle.shared_pages.specs.declared.view.View.{View}
 use Rattle.shared_pages.specs.declared.view.View.TheVariants.{Spent, Rest, One, Copy}
-use Rattle.shared_pages.specs.Rule.{most_passes, Slot, Log, ViewFits, IsHeld, Kept, learned, met, new_sight}
+use Rattle.shared_pages.specs.Rule.{Slot, Log, SightFits, ViewFits, IsHeld, Kept, learned, met, looked, new_sight}
 use Rattle.shared_pages.proofs.Logs.{longest_fits}
+use Rattle.shared_pages.proofs.Making.{knows}
 use Rattle.shared_pages.proofs.Holding.{reviewed, resighted, one_is, no_hold}
 
 pub copies : (pool : Opening) (id : ℕ) (v : Sight) → Splits (Kept pool) id (One v) (One v) (Copy v.seen)
 copies pool id v s r at = subst (λ (l : List View). Kept pool record { words = s.words; homes = s.homes; views = l ++ Copy v.seen ∷ [] }) (sym (set_again s.views id (One v) at))
     (reviewed pool s r (s.views ++ Copy v.seen ∷ [])
-    (λ j u x. ⊎_elim (r.views j u) (λ (e : Copy v.seen ≡ u). subst (ViewFits s.words r.logs) e (r.views id (One v) at).seen) (at_snoc s.views (Copy v.seen) u j x))
+    (λ j u x. ⊎_elim (r.views j u) (λ (e : Copy v.seen ≡ u). subst (ViewFits pool.seats s.words r.logs) e (r.views id (One v) at).seen) (at_snoc s.views (Copy v.seen) u j x))
     (λ j a x. ⊎_elim (λ (y : get_elem? s.views j ≡ some (One a)). (a, y, refl, refl)) (λ (e : Copy v.seen ≡ One a). absurd cc) (at_snoc s.views (Copy v.seen) (One a) j x))
     (λ j k lists x. ⊎_elim (λ (y : get_elem? s.views j ≡ some (Rest k lists)). y) (λ (e : Copy v.seen ≡ Rest k lists). absurd cc) (at_snoc s.views (Copy v.seen) (Rest k lists) j x)))
 
 spends : (pool : Opening) (s : State Slot View) (r : Kept pool s) (other : ℕ) → Kept pool record { words = s.words; homes = s.homes; views = set s.views other Spent }
 spends pool s r other = reviewed pool s r (set s.views other Spent)
-    (λ j u x. ⊎_elim (λ (t : (j ≡ other) × (Spent ≡ u)). subst (ViewFits s.words r.logs) t.1 tt) (λ (t : (j ≢ other) × (get_elem? s.views j ≡ some u)). r.views j u t.1) (at_set s.views other j Spent u x))
+    (λ j u x. ⊎_elim (λ (t : (j ≡ other) × (Spent ≡ u)). subst (ViewFits pool.seats s.words r.logs) t.1 tt) (λ (t : (j ≢ other) × (get_elem? s.views j ≡ some u)). r.views j u t.1) (at_set s.views other j Spent u x))
     (λ j a x. ⊎_elim (λ (t : (j ≡ other) × (Spent ≡ One a)). let e = t.1 in absurd cc) (λ (t : (j ≢ other) × (get_elem? s.views j ≡ some (One a))). (a, t.1, refl, refl)) (at_set s.views other j Spent (One a) x))
     (λ j k lists x. ⊎_elim (λ (t : (j ≡ other) × (Spent ≡ Rest k lists)). let e = t.1 in absurd cc) (λ (t : (j ≢ other) × (get_elem? s.views j ≡ some (Rest k lists))). t.1) (at_set s.views other j Spent (Rest k lists) x))
 
 pub joins : (pool : Opening) (id other : ℕ) (v : Sight) (c : List Log) → Joins (Kept pool) id (One v) other (Copy c) (One (record v { other = c })) Spent
 joins pool id other v c s r at ne there = let w : Sight = record v { other = c } in let mine = r.views id (One v) at in
     let here : get_elem? s.views other ≡ some (Copy c) = sym (set_else s.views id other (One w) ne) ∙ there in
-    let r' = resighted pool s r id v w at (record { among = mine.among; seen = mine.seen; other = r.views other (Copy c) here; own = mine.own; held = mine.held }) refl refl in
+    let r' = resighted pool s r id v w at (record { among = mine.among; made = mine.made; seen = mine.seen; other = r.views other (Copy c) here; own = mine.own; held = mine.held }) refl refl in
     spends pool record { words = s.words; homes = s.homes; views = set s.views id (One w) } r' other
 
-pub meets : (pool : Opening) (slots id : ℕ) (v : Sight) → v.hold ≡ Free → Allows (Kept pool) slots id (One v, []) 0 (λ n. n) (met (step slots 0 0 0 none) (One v, []))
-meets pool slots id v free s r wide at small = let mine = r.views id (One v) at in let f = longest_fits v.number v.seen v.other r.logs mine.seen mine.other mine.own in let w : Sight = learned v in (
-  One w,
+-- a pass learns what the other has seen
+pub meets : (pool : Opening) (slots id : ℕ) (v : Sight) → v.hold ≡ Free → Allows (Kept pool) slots id (One v, []) 0 (λ n. n) (met pool (step slots 0 0 0 none) (One v, []))
+meets pool slots id v free s r wide at small =
+    let mine = r.views id (One v) at in
+    let f = longest_fits v.number v.seen v.other r.logs mine.seen mine.other mine.own in
+    let w : Sight = learned v in
+    let fits : SightFits pool.seats s.words r.logs w = record {
+      among = mine.among;
+      made = mine.made;
+      seen = f.0;
+      other = mine.other;
+      own = f.1;
+      held = subst (λ (h : Hold). IsHeld h s.words w.seen r.logs) (sym free) tt;
+    } in (
+      One w,
+      keeps,
+      tt,
+      subst (λ (ws : List ℕ). Kept pool record { words = ws; homes = s.homes; views = set s.views id (One w) }) (sym (set-get_or s.words 0 0))
+          (resighted pool s r id v w at fits refl refl),
+      (refl, f.2, knows pool s r w fits),
+    )
+
+-- a pass looks at the pool
+pub looks : (pool : Opening) (slots id : ℕ) (v : Sight) → Allows (Kept pool) slots id (One v, []) 0 (λ n. n) (looked pool (step slots 0 0 0 none) (One v, []))
+looks pool slots id v s r wide at small = let fits = r.views id (One v) at in (
+  One v,
   keeps,
   tt,
-  subst (λ (ws : List ℕ). Kept pool record { words = ws; homes = s.homes; views = set s.views id (One w) }) (sym (set-get_or s.words 0 0))
-      (resighted pool s r id v w at (record { among = mine.among; seen = f.0; other = mine.other; own = f.1; held = subst (λ (h : Hold). IsHeld h s.words w.seen r.logs) (sym free) tt }) refl refl),
-  (refl, f.2),
+  subst (λ (ws : List ℕ). Kept pool record { words = ws; homes = s.homes; views = set s.views id (One v) }) (sym (set-get_or s.words 0 0))
+      (resighted pool s r id v v at fits refl refl),
+  (refl, knows pool s r v fits),
 )
 
 last_or : (l : List View) (a u : View) (i : ℕ) → get_elem? (l ++ a ∷ []) i ≡ some u → ((i ≡ length l) × (a ≡ u)) ⊎ (get_elem? l i ≡ some u)
@@ -54,7 +78,7 @@ same_right : (k m : ℕ) (lists others : List Log) → Rest k lists ≡ Rest m o
 same_right k m lists others e = cc
 
 -- who has the right to make passes makes one
-module _ (pool : Opening) (id k : ℕ) (lists : List Log) (s : State Slot View) (r : Kept pool s) (at : get_elem? s.views id ≡ some (Rest k lists)) (room : k < most_passes) where
+module _ (pool : Opening) (id k : ℕ) (lists : List Log) (s : State Slot View) (r : Kept pool s) (at : get_elem? s.views id ≡ some (Rest k lists)) (room : k < pool.seats) where
   abbrev rights : List View
   rights = set s.views id (Rest (k + 1) lists)
 
@@ -83,6 +107,8 @@ module _ (pool : Opening) (id k : ℕ) (lists : List Log) (s : State Slot View) 
   makes : Kept pool record { words = s.words; homes = s.homes; views = now }
   makes = let mine = r.views id (Rest k lists) at in record {
     logs = r.logs;
+    least = r.least;
+    seats = r.seats;
     words = r.words;
     homes = r.homes;
     all = r.all;
@@ -91,9 +117,9 @@ module _ (pool : Opening) (id k : ℕ) (lists : List Log) (s : State Slot View) 
     few = r.few;
     rests = r.rests;
     views = λ j u x. ⊎_elim
-        (λ (t : (j ≡ length rights) × (One made ≡ u)). subst (ViewFits s.words r.logs) t.1 record { among = room; seen = mine.0; other = mine.0; own = mine.1 k (le_refl k); held = tt })
+        (λ (t : (j ≡ length rights) × (One made ≡ u)). subst (ViewFits pool.seats s.words r.logs) t.1 record { among = room; made = mine.2 k (le_refl k); seen = mine.0; other = mine.0; own = mine.1 k (le_refl k); held = tt })
         (λ (t : get_elem? rights j ≡ some u). ⊎_elim
-        (λ (w : (j ≡ id) × (Rest (k + 1) lists ≡ u)). subst (ViewFits s.words r.logs) w.1 (mine.0, λ n more. mine.1 n (omega arith)))
+        (λ (w : (j ≡ id) × (Rest (k + 1) lists ≡ u)). subst (ViewFits pool.seats s.words r.logs) w.1 (mine.0, (λ n more. mine.1 n (omega arith)), (λ n more. mine.2 n (omega arith))))
         (λ (w : (j ≢ id) × (get_elem? s.views j ≡ some u)). r.views j u w.1)
         (at_set s.views id j (Rest (k + 1) lists) u t))
         (last_or rights (One made) u j x);
@@ -121,5 +147,5 @@ module _ (pool : Opening) (id k : ℕ) (lists : List Log) (s : State Slot View) 
     one_rest = λ i j m n others more x y. (right_then i m others x).0 ∙ sym (right_then j n more y).0;
   }
 
-pub makes_pass : (pool : Opening) (id k : ℕ) (lists : List Log) → k < most_passes → Splits (Kept pool) id (Rest k lists) (Rest (k + 1) lists) (One (new_sight k lists))
+pub makes_pass : (pool : Opening) (id k : ℕ) (lists : List Log) → k < pool.seats → Splits (Kept pool) id (Rest k lists) (Rest (k + 1) lists) (One (new_sight k lists))
 makes_pass pool id k lists room s r at = makes pool id k lists s r at room

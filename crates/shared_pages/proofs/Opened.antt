@@ -1,11 +1,12 @@
 -- The rule holds of a pool that is opened.
-use Rattle.std.proofs.Common.{◌≡◌, ℕ, zero, suc, ◌<◌, ◌≤◌, [], ◌∷◌, length, sym, refl, ◌∙◌, subst, arith, map}
+use Rattle.std.proofs.Common.{◌≡◌, ℕ, zero, suc, ◌<◌, ◌≤◌, [], ◌∷◌, length, sym, refl, ap, ◌∙◌, subst, arith, map}
 use Rattle.std.specs.Prelude.{Some}
 use Rattle.std.proofs.lemmas.List.{length-map, length-replicate}
 use mathlib.Core.Option.{some, some-injective, some-ne-none}
 use lib.ListN.{get_elem?, replicate}
 use Rattle.atomic_table.specs.Table.{opening}
 use Rattle.smbd_base.specs.Pages.{PageState, opened_page}
+use Rattle.smbd_base.specs.PagesFit.{events_by}
 use Rattle.shared_pages.specs.declared.view.Opening.{Opening}
 use Rattle.shared_pages.specs.declared.view.View.{View}
 use Rattle.shared_pages.specs.declared.view.View.TheVariants.{Rest}
@@ -40,20 +41,26 @@ only_view a u zero e = (refl, some-injective a u e)
 only_view a u (suc i) e = absurd (some-ne-none u (sym e))
 
 -- every page is unloaded, its life is empty, and no pass was made
-pub opens_well : (pool : Opening) → Kept pool (opening (replicate pool.pages 0) (replicate pool.pages (Some (opened_page pool.first))) (Rest 0 (replicate pool.pages [])))
-opens_well pool = let n = pool.pages in record {
+pub opens_well : (pool : Opening) → 1 ≤ pool.first → pool.seats ≤ Rattle.shared_pages.specs.Rule.most_passes → Kept pool (opening (replicate pool.pages 0) (replicate pool.pages (Some (opened_page pool.first))) (Rest 0 (replicate pool.pages [])))
+opens_well pool least seats = let n = pool.pages in record {
   logs = replicate n [];
+  least = least;
+  seats = seats;
   words = length-replicate _ _;
   homes = length-map _ _ ∙ length-replicate _ _;
   all = length-replicate _ _;
   lawful = λ p l e. subst (λ (z : Log). Rattle.smbd_base.specs.Pages.IsPageLife pool.first p z) (of_replicate n p [] l e) tt;
-  made = λ p l e. subst (λ (z : Log). Rattle.smbd_base.specs.PagesFit.AreMadeBy Rattle.shared_pages.specs.Rule.most_passes z) (of_replicate n p [] l e) tt;
+  made = λ p l e. subst (λ (z : Log). Rattle.smbd_base.specs.PagesFit.AreMadeBy pool.seats z) (of_replicate n p [] l e) tt;
   few = λ k p l e. subst (λ (z : Log). length (Rattle.shared_pages.specs.Rule.made_by k z) ≤ Rattle.shared_pages.specs.Rule.most_events) (of_replicate n p [] l e) (omega arith);
   rests = λ p l e _.
       let low : p < n = let a = inside (replicate n []) p l e in let b : length (replicate {A = Log} n []) ≡ n = length-replicate _ _ in omega arith in
       subst (λ (z : Log). Rattle.shared_pages.specs.Rule.Rests (replicate n 0) (map some (replicate n (Some (opened_page pool.first)))) pool.first p z) (of_replicate n p [] l e)
       (record { counted = at_replicate n p 0 low; lies = home_at n p (Some (opened_page pool.first)) low });
-  views = λ j u e. subst (ViewFits (replicate n 0) (replicate n [])) (only_view _ u j e).1 (no_lists n, λ k _. none_made k n);
+  views = λ j u e. subst (ViewFits pool.seats (replicate n 0) (replicate n [])) (only_view _ u j e).1 (
+    no_lists n,
+    (λ k _. none_made k n),
+    (λ k _. record { parts = λ p l x. ap (events_by k) (of_replicate n p [] l x); within = tt }),
+  );
   apart = λ i j a b x y e. absurd (let h = (only_view _ _ i x).1 in cc);
   one_holder = λ i j a b p x y f g. absurd (let h = (only_view _ _ i x).1 in cc);
   below = λ i j k a lists x y. absurd (let h = (only_view _ _ i x).1 in cc);

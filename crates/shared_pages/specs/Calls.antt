@@ -1,7 +1,8 @@
 -- What the calls of a pool tell a pass.
-use Rattle.std.specs.Prelude.{◌≡◌, ◌≢◌, ℕ, ◌+◌, ◌<◌, List, [], ◌∷◌, length, replicate, slice_set, None}
+use Rattle.std.specs.Prelude.{◌≡◌, ◌≢◌, ℕ, ◌+◌, ◌<◌, ◌≤◌, List, [], ◌∷◌, length, replicate, slice_set, None}
 use mathlib.Core.Option.{some}
 use lib.ListN.{get_elem?}
+use Rattle.smbd_base.specs.declared.token.TheConstants.{LAST_GENERATION}
 use Rattle.smbd_base.specs.declared.page_event.PageEvent.{PageEvent}
 use Rattle.smbd_base.specs.Pages.{PageState, IsPageLife, IsPageStep, page_in, page_state, page_after}
 use Rattle.shared_pages.specs.declared.view.Opening.{Opening}
@@ -39,13 +40,18 @@ abbrev pub AreNew : Pages → ℕ → List PagePass → Type 0
 AreNew pages n [] = Unit {0}
 AreNew pages n (pass ∷ passes) = IsNew pages n pass × AreNew pages (n + 1) passes
 
+-- the pass has made the same events
+pub record MadeAsMuch (old new : Sight) : Type 0 where
+  pub number : new.number ≡ old.number
+  pub made : new.made ≡ old.made
+
 -- the pass has seen this of the page's life
 abbrev pub HasSeen : Sight → ℕ → Log → Type 0
 HasSeen v page log = get_elem? v.seen page ≡ some log
 
--- the pass made fewer than 2 ^ 57 events on the page
-abbrev pub MayMake : Sight → ℕ → Type 0
-MayMake v page = (log : Log) → HasSeen v page log → length (made_by v.number log) < most_events
+-- the pass made fewer than 2 ^ 57 events
+abbrev pub MayMake : Sight → Type 0
+MayMake v = length v.made < most_events
 
 -- The life of a page up to a call, after what the pass had seen of it. The pass made no entry meanwhile.
 pub record IsLifeAfter (first page : ℕ) (v : Sight) (log : Log) : Type 0 where
@@ -62,8 +68,7 @@ pub record IsInHand (first page : ℕ) (old new : Sat) (count : ℕ) (content : 
   pub stands : content ≡ page_state first log
   pub countable : length log + 1 < mark
   pub seen : HasSeen (holding (sight_of old.0) page log) page log
-  pub before : Log
-  pub had : HasSeen (sight_of old.0) page before
+  pub few : length (made_by (sight_of old.0).number log) ≤ length (sight_of old.0).made
 
 -- the page may be given back with the event
 pub record MayGive (first page : ℕ) (event : PageEvent) (me : Sat) (count : ℕ) (content : PageState) : Type 0 where
@@ -93,18 +98,22 @@ pub record MayLetGo (first page : ℕ) (me : Sat) (count : ℕ) (content : PageS
 abbrev pub with_log : Sight → ℕ → Log → Sight
 with_log v page log = record v { seen = slice_set v.seen page log }
 
--- the entry of the event, after this life
-abbrev pub with_event : Sight → PageEvent → Log → Log
-with_event v event log = (record { pass = v.number; event = event }) ∷ log
+-- what it knows when it has made the event, after this life of the page
+abbrev pub with_event : Sight → ℕ → PageEvent → Log → Sight
+with_event v page event log = record v {
+  made = event ∷ v.made;
+  seen = slice_set v.seen page ((record { pass = v.number; event = event }) ∷ log);
+}
 
 -- What a load that isn't Busy tells its pass: it has seen the page's life up to the call, and the answer is that of the state
 -- that this life leaves. Where the page was loaded, the life goes on with that step, else it stays.
 pub record LoadTells (first page : ℕ) (right : Right) (bytes : List ℕ) (old new : Sight) (result : Load) : Type 0 where
   pub log : Log
   pub life : IsLifeAfter first page old log
+  pub most : (page_state first log).generation ≤ LAST_GENERATION
   pub answer : result ≡ load_answer page (page_state first log)
   pub loaded : IfLoaded result (λ token. IsPageStep (events.Load token right bytes) (page_state first log)
-      × (new ≡ with_log old page (with_event old (events.Load token right bytes) log)))
+      × (new ≡ with_event old page (events.Load token right bytes) log))
   pub refused : OnRefused result (new ≡ with_log old page log)
 
 -- The same for an access, whose event follows from the state that was found.
@@ -113,5 +122,5 @@ pub record AccessTells (first page : ℕ) (event : PageState → PageEvent) (ans
   pub life : IsLifeAfter first page old log
   pub answer : result ≡ answer_at (page_state first log)
   pub done : result ≡ access.Done → IsPageStep (event (page_state first log)) (page_state first log)
-      × (new ≡ with_log old page (with_event old (event (page_state first log)) log))
+      × (new ≡ with_event old page (event (page_state first log)) log)
   pub refused : result ≢ access.Done → new ≡ with_log old page log

@@ -4,8 +4,8 @@ use mathlib.Core.Option as maybe
 use lib.ListN.{get_elem?}
 use Rattle.atomic_table.specs.Table.{State, Me, Step}
 use Rattle.smbd_base.specs.declared.page_event.PageEvent.{PageEvent}
-use Rattle.smbd_base.specs.Pages.{Entry, PageState, IsPageLife, page_state}
-use Rattle.smbd_base.specs.PagesFit.{AreMadeBy}
+use Rattle.smbd_base.specs.Pages.{Entry, PageState, IsPageLife, page_in, page_state}
+use Rattle.smbd_base.specs.PagesFit.{AreMadeBy, events_by}
 use Rattle.shared_pages.specs.declared.view.Opening.{Opening}
 use Rattle.shared_pages.specs.declared.view.Hold.{Hold}
 use Rattle.shared_pages.specs.declared.view.Hold.TheVariants.{Free, Has}
@@ -41,6 +41,21 @@ abbrev pub made_by : ℕ → Log → Log
 made_by n [] = []
 made_by n (e ∷ past) = if e.pass == n then e ∷ made_by n past else made_by n past
 
+-- the events of a list that are on this page, in their order
+abbrev pub events_on : ℕ → List PageEvent → List PageEvent
+events_on page [] = []
+events_on page (e ∷ events) = if page_in e == page then e ∷ events_on page events else events_on page events
+
+-- each event is on one of so many pages
+abbrev pub AreWithin : ℕ → List PageEvent → Type 0
+AreWithin count [] = Unit {0}
+AreWithin count (e ∷ events) = (page_in e < count) × AreWithin count events
+
+-- the events that a pass made are, page by page, its entries of the logs
+pub record IsMade (n : ℕ) (made : List PageEvent) (logs : List Log) : Type 0 where
+  pub parts : (p : ℕ) (l : Log) → get_elem? logs p ≡ some l → events_on p made ≡ events_by n l
+  pub within : AreWithin (length logs) made
+
 -- each page's list is an older part of its log
 abbrev pub AllEnd : List Log → List Log → Type 0
 AllEnd [] [] = Unit {0}
@@ -58,18 +73,20 @@ abbrev pub IsHeld : Hold → List ℕ → List Log → List Log → Type 0
 IsHeld Free words seen logs = Unit {0}
 IsHeld (Has p) words seen logs = (get_elem? words p ≡ some mark) × (get_elem? seen p ≡ get_elem? logs p)
 
-pub record SightFits (words : List ℕ) (logs : List Log) (v : Sight) : Type 0 where
+pub record SightFits (seats : ℕ) (words : List ℕ) (logs : List Log) (v : Sight) : Type 0 where
   pub seen : AllEnd v.seen logs
   pub other : AllEnd v.other logs
   pub own : AllSeen v.number v.seen logs
   pub held : IsHeld v.hold words v.seen logs
-  pub among : v.number < most_passes
+  pub among : v.number < seats
+  pub made : IsMade v.number v.made logs
 
-abbrev pub ViewFits : List ℕ → List Log → View → Type 0
-ViewFits words logs Spent = Unit {0}
-ViewFits words logs (Rest k lists) = AllEnd lists logs × ((n : ℕ) → k ≤ n → AllSeen n lists logs)
-ViewFits words logs (One v) = SightFits words logs v
-ViewFits words logs (Copy c) = AllEnd c logs
+abbrev pub ViewFits : ℕ → List ℕ → List Log → View → Type 0
+ViewFits seats words logs Spent = Unit {0}
+ViewFits seats words logs (Rest k lists) =
+    AllEnd lists logs × ((n : ℕ) → k ≤ n → AllSeen n lists logs) × ((n : ℕ) → k ≤ n → IsMade n [] logs)
+ViewFits seats words logs (One v) = SightFits seats words logs v
+ViewFits seats words logs (Copy c) = AllEnd c logs
 
 pub record Rests (words : List ℕ) (homes : List (maybe.Option Slot)) (first p : ℕ) (l : Log) : Type 0 where
   pub counted : get_elem? words p ≡ some (length l)
@@ -77,21 +94,23 @@ pub record Rests (words : List ℕ) (homes : List (maybe.Option Slot)) (first p 
 
 pub record Kept (pool : Opening) (s : State Slot View) : Type 0 where
   pub logs : List Log
+  pub least : 1 ≤ pool.first
+  pub seats : pool.seats ≤ most_passes
   pub words : length s.words ≡ pool.pages
   pub homes : length s.homes ≡ pool.pages
   pub all : length logs ≡ pool.pages
   pub lawful : (p : ℕ) (l : Log) → get_elem? logs p ≡ some l → IsPageLife pool.first p l
-  pub made : (p : ℕ) (l : Log) → get_elem? logs p ≡ some l → AreMadeBy most_passes l
+  pub made : (p : ℕ) (l : Log) → get_elem? logs p ≡ some l → AreMadeBy pool.seats l
   pub few : (n p : ℕ) (l : Log) → get_elem? logs p ≡ some l → length (made_by n l) ≤ most_events
   pub rests : (p : ℕ) (l : Log) → get_elem? logs p ≡ some l → get_elem? s.words p ≢ some mark → Rests s.words s.homes pool.first p l
-  pub views : (j : ℕ) (u : View) → get_elem? s.views j ≡ some u → ViewFits s.words logs u
+  pub views : (j : ℕ) (u : View) → get_elem? s.views j ≡ some u → ViewFits pool.seats s.words logs u
   pub apart : (i j : ℕ) (v w : Sight) → get_elem? s.views i ≡ some (One v) → get_elem? s.views j ≡ some (One w) → v.number ≡ w.number → i ≡ j
   pub one_holder : (i j : ℕ) (v w : Sight) (p : ℕ) → get_elem? s.views i ≡ some (One v) → get_elem? s.views j ≡ some (One w) → v.hold ≡ Has p → w.hold ≡ Has p → i ≡ j
   pub below : (i j k : ℕ) (v : Sight) (lists : List Log) → get_elem? s.views i ≡ some (One v) → get_elem? s.views j ≡ some (Rest k lists) → v.number < k
   pub one_rest : (i j k m : ℕ) (lists others : List Log) → get_elem? s.views i ≡ some (Rest k lists) → get_elem? s.views j ≡ some (Rest m others) → i ≡ j
 
 abbrev pub new_sight : ℕ → List Log → Sight
-new_sight n empty = record { number = n; seen = empty; other = empty; hold = Free; refusals = 0 }
+new_sight n empty = record { number = n; made = []; seen = empty; other = empty; hold = Free; refusals = 0 }
 
 abbrev pub sight_of : View → Sight
 sight_of Spent = new_sight 0 []
@@ -107,8 +126,13 @@ holding v p l = record v { seen = slice_set v.seen p l; hold = Has p }
 abbrev pub let_go : Sight → Sight
 let_go v = record v { hold = Free }
 
-abbrev pub gave : Sight → ℕ → Log → Sight
-gave v p l = record v { seen = slice_set v.seen p l; hold = Free }
+-- the page is let go, with one event more
+abbrev pub gave : Sight → ℕ → PageEvent → Log → Sight
+gave v p event l = record v {
+  made = event ∷ v.made;
+  seen = slice_set v.seen p ((record { pass = v.number; event = event }) ∷ l);
+  hold = Free;
+}
 
 -- its swap showed the page in the hands of another pass
 abbrev pub refused : Sight → Sight
@@ -119,7 +143,7 @@ abbrev pub held : ℕ → Step Slot → Sat → ℕ → Sat → Type 0
 held first st m r n = (r ≡ mark → n ≡ (One (refused (sight_of m.0)), m.1))
     × (r ≢ mark → (l : Log) × (n ≡ (One (holding (sight_of m.0) st.word l), (st.word, Some (page_state first l)) ∷ [])) × (r ≡ length l) × IsPageLife first st.word l
     × ((older : Log) → get_elem? (sight_of m.0).seen st.word ≡ some older → Ends older l × (made_by (sight_of m.0).number l ≡ made_by (sight_of m.0).number older))
-    × (length l + 1 < mark) × (get_elem? (slice_set (sight_of m.0).seen st.word l) st.word ≡ some l) × ((older : Log) × (get_elem? (sight_of m.0).seen st.word ≡ some older)))
+    × (length l + 1 < mark) × (get_elem? (slice_set (sight_of m.0).seen st.word l) st.word ≡ some l) × (length (made_by (sight_of m.0).number l) ≤ length (sight_of m.0).made))
 
 -- the page is given back as it was
 abbrev pub kept : Step Slot → Sat → ℕ → Sat → Type 0
@@ -128,7 +152,7 @@ kept st m r n = n ≡ (One (let_go (sight_of m.0)), [])
 -- the page is given back with one event more
 abbrev pub given : PageEvent → Step Slot → Sat → ℕ → Sat → Type 0
 given event st m r n = (l : Log) → get_elem? (sight_of m.0).seen st.word ≡ some l
-    → n ≡ (One (gave (sight_of m.0) st.word ((record { pass = (sight_of m.0).number; event = event }) ∷ l)), [])
+    → n ≡ (One (gave (sight_of m.0) st.word event l), [])
 
 -- of two lists of one page, the longer one
 abbrev pub longer : Log → Log → Log
@@ -141,8 +165,9 @@ longest (a ∷ xs) (b ∷ ys) = longer a b ∷ longest xs ys
 
 -- one list of each page is an older part of the other
 abbrev pub AllCompare : List Log → List Log → Type 0
-AllCompare [] ys = Unit {0}
-AllCompare (a ∷ xs) [] = Unit {0}
+AllCompare [] [] = Unit {0}
+AllCompare [] (b ∷ ys) = ⊥
+AllCompare (a ∷ xs) [] = ⊥
 AllCompare (a ∷ xs) (b ∷ ys) = (Ends a b ⊎ Ends b a) × AllCompare xs ys
 
 abbrev pub copied : View → View
@@ -166,8 +191,23 @@ joined (Copy c) w = Copy c
 abbrev pub learned : Sight → Sight
 learned v = record v { seen = longest v.seen v.other }
 
-abbrev pub met : Step Slot → Sat → ℕ → Sat → Type 0
-met st m r n = (n ≡ (One (learned (sight_of m.0)), m.1)) × AllCompare (sight_of m.0).seen (sight_of m.0).other
+-- What a pass knows of its pool: of each page a lawful life, whose entries its passes made. Its own events are, page by page,
+-- its entries of these lives.
+pub record Knows (pool : Opening) (v : Sight) : Type 0 where
+  pub least : 1 ≤ pool.first
+  pub pages : length v.seen ≡ pool.pages
+  pub lives : (page : ℕ) (log : Log) → get_elem? v.seen page ≡ some log → IsPageLife pool.first page log
+  pub by : (page : ℕ) (log : Log) → get_elem? v.seen page ≡ some log → AreMadeBy pool.seats log
+  pub own : IsMade v.number v.made v.seen
+
+-- a pass learns what the other has seen; the one's lists go on where the other's end
+abbrev pub met : Opening → Step Slot → Sat → ℕ → Sat → Type 0
+met pool st m r n = (n ≡ (One (learned (sight_of m.0)), m.1)) × AllCompare (sight_of m.0).seen (sight_of m.0).other
+    × Knows pool (learned (sight_of m.0))
+
+-- nothing changes
+abbrev pub looked : Opening → Step Slot → Sat → ℕ → Sat → Type 0
+looked pool st m r n = (n ≡ m) × Knows pool (sight_of m.0)
 
 abbrev pub fewer : View → View
 fewer Spent = Spent

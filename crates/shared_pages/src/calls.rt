@@ -4,8 +4,8 @@ ghost use Rattle.std.specs.Prelude.{◌≡◌, ◌≢◌, ℕ, ◌<◌, ◌+◌,
 ghost use mathlib.Core.Option.{some};
 ghost use lib.ListN.{get_elem?};
 ghost use Rattle.smbd_base.specs.declared.token.TheConstants.{PAGE_SIZE, LAST_GENERATION};
-ghost use Rattle.shared_pages.specs.Rule.{new_sight, Log, sight_of, gave, let_go, refused, longest, AllCompare};
-ghost use Rattle.shared_pages.specs.Calls.{AreNew, known_by, MayMake, LoadTells, AccessTells, IsOf, IsInHand, MayGive, MayLetGo, opening_of};
+ghost use Rattle.shared_pages.specs.Rule.{new_sight, Log, sight_of, gave, let_go, refused, longest, AllCompare, Knows};
+ghost use Rattle.shared_pages.specs.Calls.{AreNew, MadeAsMuch, known_by, MayMake, LoadTells, AccessTells, IsOf, IsInHand, MayGive, MayLetGo, opening_of};
 ghost use Rattle.smbd_base.specs.declared.page_event.PageEvent.TheVariants as events;
 ghost use Rattle.shared_pages.specs.Answers.{fetch_answer, place_answer, unload_answer, places_had};
 ghost use Rattle.shared_pages.specs.declared.view.Hold.TheVariants.{Free};
@@ -15,7 +15,7 @@ ghost use Rattle.smbd_base.specs.Pages.{opened_page};
 use crate::answers::{Access, Load};
 use crate::page_pass::{PagePass, Passes};
 use crate::pages::Pages;
-use crate::plays::{Copies, Deals, Does, Gives, Holds, Joins, LetsGo, Meet, Opens, Order};
+use crate::plays::{Copies, Deals, Does, Gives, Holds, Joins, LetsGo, Looks, Meet, Opens, Order};
 use crate::slot::Slot;
 use crate::view::{Opening, Step, View};
 use atomic_table::{Seat, Table};
@@ -46,17 +46,20 @@ impl Pages {
         alloc: Global,
         count: u16,
         first_generation: u32,
+        seats: u8,
     ) -> Result<(Pages, Seat<Option<Slot>, View>), NoMemory>
         requires some { 1 ≤ count }
         requires least { 1 ≤ first_generation }
         requires most { first_generation ≤ LAST_GENERATION }
+        requires most_seats { seats ≤ 32 }
         ensures own { IfOk result (λ t. t.1.table_id ≡ t.0.table.shared.table_id) }
-        ensures opening { IfOk result (λ t. opening_of t.0 ≡ record { pages = count; first = first_generation }) }
+        ensures opening { IfOk result (λ t. opening_of t.0 ≡ record { pages = count; first = first_generation; seats = seats }) }
         ensures seat { IfOk result (λ t. t.1.me ≡ (Rest 0 (replicate count []), [])) }
     {
         let pool = Opening {
             pages: usize::from(count),
             first: first_generation,
+            seats,
         };
         let words: Vec<u64> = vec![in alloc; 0; pool.pages]?;
         let slots = unloaded(alloc, count, first_generation)?;
@@ -80,10 +83,10 @@ impl Pages {
         requires most_generation { first_generation ≤ LAST_GENERATION }
         requires least_seats { 1 ≤ seats }
         requires most_seats { seats ≤ 32 }
-        ensures opening { IfOk result (λ t. opening_of t.0 ≡ record { pages = count; first = first_generation }) }
+        ensures opening { IfOk result (λ t. opening_of t.0 ≡ record { pages = count; first = first_generation; seats = seats }) }
         ensures passes { IfOk result (λ t. (length t.1.passes.items ≡ seats) × AreNew t.0 0 t.1.passes.items) }
     {
-        let (pages, mut seat) = Pages::empty(alloc, count, first_generation)?;
+        let (pages, mut seat) = Pages::empty(alloc, count, first_generation, seats)?;
         let mut passes = VecDeque::with_capacity(alloc, usize::from(seats))?;
         for number in 0..seats {
             passes.push_back(pages.deal(&mut seat, number))?;
@@ -95,7 +98,7 @@ impl Pages {
     fn deal(&self, seat: &mut Seat<Option<Slot>, View>, number: u8) -> PagePass
         requires own { seat.old.table_id ≡ self.now.table.shared.table_id }
         requires rest { seat.old.me ≡ (Rest number (replicate (opening_of self.now).pages []), []) }
-        requires few { number < 32 }
+        requires few { number < (opening_of self.now).seats }
         ensures own { IsOf self.now result × (seat.new.table_id ≡ seat.old.table_id) }
         ensures rest { seat.new.me ≡ (Rest (number + 1) (replicate (opening_of self.now).pages []), []) }
         ensures pass { known_by result ≡ new_sight number (replicate (opening_of self.now).pages []) }
@@ -110,12 +113,12 @@ impl Pages {
         seat: &mut Seat<Option<Slot>, View>,
         page: usize,
     ) -> Option<(u64, Slot)>
-        requires first { J.first ≡ (opening_of self.now).first }
+        requires opening { J.opening ≡ opening_of self.now }
         requires own { (seat.old.table_id ≡ self.now.table.shared.table_id) × (page < (opening_of self.now).pages) }
         requires rests { (seat.old.me ≡ (One (sight_of seat.old.me.0), [])) × ((sight_of seat.old.me.0).hold ≡ Free) }
         ensures own { seat.new.table_id ≡ seat.old.table_id }
         ensures busy { IfNone result (seat.new.me ≡ (One (refused (sight_of seat.old.me.0)), [])) }
-        ensures held { IfSome result (λ t. IsInHand J.first page seat.old.me seat.new.me t.0 t.1) }
+        ensures held { IfSome result (λ t. IsInHand J.opening.first page seat.old.me seat.new.me t.0 t.1) }
     {
         let shared = &self.table.shared;
         let found = shared.swap::<Holds<J>>(seat, page, HELD);
@@ -139,7 +142,7 @@ impl Pages {
         requires own { (seat.old.table_id ≡ self.now.table.shared.table_id) × (page < (opening_of self.now).pages) }
         requires may { MayGive (opening_of self.now).first page J.event seat.old.me count slot }
         ensures own { seat.new.table_id ≡ seat.old.table_id }
-        ensures given { (l : Log) → get_elem? (sight_of seat.old.me.0).seen page ≡ some l → seat.new.me ≡ (One (gave (sight_of seat.old.me.0) page (record { pass = (sight_of seat.old.me.0).number; event = J.event } ∷ l)), []) }
+        ensures given { (l : Log) → get_elem? (sight_of seat.old.me.0).seen page ≡ some l → seat.new.me ≡ (One (gave (sight_of seat.old.me.0) page J.event l), []) }
     {
         let shared = &self.table.shared;
         drop(shared.exchange(seat, page, Some(slot)));
@@ -165,9 +168,10 @@ impl Pages {
         requires among { page < (opening_of self.now).pages }
         requires some { 1 ≤ length bytes.now }
         requires fits { length bytes.now ≤ PAGE_SIZE }
-        requires few { MayMake (known_by pass.old) page }
+        requires few { MayMake (known_by pass.old) }
         ensures own { IsOf self.now pass.new }
         ensures busy { result ≡ Load.Busy → known_by pass.new ≡ refused (known_by pass.old) }
+        ensures few { length (known_by pass.new).made ≤ length (known_by pass.old).made + 1 }
         ensures tells { result ≢ Load.Busy → LoadTells (opening_of self.now).first page right bytes.now (known_by pass.old) (known_by pass.new) result }
     {
         let place = usize::from(page);
@@ -201,25 +205,26 @@ impl Pages {
         requires among { token.page < (opening_of self.now).pages }
         requires some { 1 ≤ length out.old }
         requires within { at + length out.old ≤ PAGE_SIZE }
-        requires few { MayMake (known_by pass.old) token.page }
+        requires few { MayMake (known_by pass.old) }
         ensures own { IsOf self.now pass.new }
         ensures busy { result ≡ Access.Busy → known_by pass.new ≡ refused (known_by pass.old) }
+        ensures few { length (known_by pass.new).made ≤ length (known_by pass.old).made + 1 }
         ensures tells { result ≢ Access.Busy → AccessTells (opening_of self.now).first token.page (λ s. events.Fetch token at out.new) (fetch_answer token) (known_by pass.old) (known_by pass.new) result }
         ensures same { result ≢ Access.Done → out.new ≡ out.old }
     {
-        let place = usize::from(token.page());
-        let Some((count, slot)) = self.hold::<Brand>(&mut pass.seat, place) else {
+        let page = usize::from(token.page());
+        let Some((count, slot)) = self.hold::<Brand>(&mut pass.seat, page) else {
             return Access::Busy;
         };
         let answer = slot.may_fetch(token);
         if answer != Access::Done {
-            self.let_go(&mut pass.seat, place, count, slot);
+            self.let_go(&mut pass.seat, page, count, slot);
             return answer;
         }
         slot.fetch(token, at, out);
         self.give_back::<Brand>(
             &mut pass.seat,
-            place,
+            page,
             count,
             slot,
             Step::Fetch(token, at),
@@ -235,9 +240,10 @@ impl Pages {
         requires among { token.page < (opening_of self.now).pages }
         requires some { 1 ≤ length bytes.now }
         requires within { at + length bytes.now ≤ PAGE_SIZE }
-        requires few { MayMake (known_by pass.old) token.page }
+        requires few { MayMake (known_by pass.old) }
         ensures own { IsOf self.now pass.new }
         ensures busy { result ≡ Access.Busy → known_by pass.new ≡ refused (known_by pass.old) }
+        ensures few { length (known_by pass.new).made ≤ length (known_by pass.old).made + 1 }
         ensures tells { result ≢ Access.Busy → AccessTells (opening_of self.now).first token.page (λ s. events.Place token (places_had s.loaded) at bytes.now) (place_answer token) (known_by pass.old) (known_by pass.new) result }
     {
         let place = usize::from(token.page());
@@ -268,9 +274,10 @@ impl Pages {
         requires own { IsOf self.now pass.old }
         requires among { token.page < (opening_of self.now).pages }
         requires size { length out.old ≡ PAGE_SIZE }
-        requires few { MayMake (known_by pass.old) token.page }
+        requires few { MayMake (known_by pass.old) }
         ensures own { IsOf self.now pass.new }
         ensures busy { result ≡ Access.Busy → known_by pass.new ≡ refused (known_by pass.old) }
+        ensures few { length (known_by pass.new).made ≤ length (known_by pass.old).made + 1 }
         ensures tells { result ≢ Access.Busy → AccessTells (opening_of self.now).first token.page (λ s. events.Unload token out.new) (unload_answer token) (known_by pass.old) (known_by pass.new) result }
         ensures same { result ≢ Access.Done → out.new ≡ out.old }
         ensures size { length out.new ≡ PAGE_SIZE }
@@ -290,29 +297,44 @@ impl Pages {
     }
 
     // The first pass learns what the second has seen.
-    fn learn(&self, one: &mut PagePass, other: &mut PagePass)
-        requires { IsOf self.now one.old × IsOf self.now other.old }
+    fn learn<J: Opens>(&self, one: &mut PagePass, other: &mut PagePass)
+        requires opening { J.opening ≡ opening_of self.now }
+        requires own { IsOf self.now one.old × IsOf self.now other.old }
         ensures own { (one.new.seat.table_id ≡ one.old.seat.table_id) × (other.new.seat.table_id ≡ other.old.seat.table_id) }
         ensures one { sight_of one.new.seat.me.0 ≡ record (sight_of one.old.seat.me.0) { seen = longest (sight_of one.old.seat.me.0).seen (sight_of other.old.seat.me.0).seen; other = (sight_of other.old.seat.me.0).seen } }
         ensures other { sight_of other.new.seat.me.0 ≡ sight_of other.old.seat.me.0 }
         ensures compare { AllCompare (sight_of one.old.seat.me.0).seen (sight_of other.old.seat.me.0).seen }
+        ensures knows { Knows J.opening (sight_of one.new.seat.me.0) }
     {
         let shared = &self.table.shared;
         let copy = shared.split_seat::<Copies>(&mut other.seat);
         shared.join_seat::<Joins>(&mut one.seat, copy);
-        shared.load::<Meet>(&mut one.seat, 0);
+        shared.load::<Meet<J>>(&mut one.seat, 0);
     }
 
-    /// Each of two passes has then seen all that either saw, and of each page one's list goes on where the other's ends.
+    // The pass changes nothing.
+    pub(crate) fn look<J: Opens>(&self, pass: &mut PagePass)
+        requires opening { J.opening ≡ opening_of self.now }
+        requires own { IsOf self.now pass.old }
+        ensures own { IsOf self.now pass.new }
+        ensures same { known_by pass.new ≡ known_by pass.old }
+        ensures knows { Knows J.opening (known_by pass.new) }
+    {
+        self.table.shared.load::<Looks<J>>(&mut pass.seat, 0);
+    }
+
+    /// Each of two passes has then seen all that either saw, and of each page one's list goes on where the other's ends. It
+    /// leaves the pages, and what each pass has made of them, as they were.
     pub fn meet(&self, one: &mut PagePass, other: &mut PagePass)
         requires { IsOf self.now one.old × IsOf self.now other.old }
         ensures own { IsOf self.now one.new × IsOf self.now other.new }
-        ensures one { (sight_of one.new.seat.me.0).seen ≡ longest (sight_of one.old.seat.me.0).seen (sight_of other.old.seat.me.0).seen }
-        ensures other { (sight_of other.new.seat.me.0).seen ≡ longest (sight_of other.old.seat.me.0).seen (sight_of one.new.seat.me.0).seen }
-        ensures numbers { ((sight_of one.new.seat.me.0).number ≡ (sight_of one.old.seat.me.0).number) × ((sight_of other.new.seat.me.0).number ≡ (sight_of other.old.seat.me.0).number) }
-        ensures compare { AllCompare (sight_of one.old.seat.me.0).seen (sight_of other.old.seat.me.0).seen }
+        ensures one { (known_by one.new).seen ≡ longest (known_by one.old).seen (known_by other.old).seen }
+        ensures other { (known_by other.new).seen ≡ (known_by one.new).seen }
+        ensures same { MadeAsMuch (known_by one.old) (known_by one.new) × MadeAsMuch (known_by other.old) (known_by other.new) }
+        ensures compare { AllCompare (known_by one.old).seen (known_by other.old).seen }
+        ensures knows { Knows (opening_of self.now) (known_by one.new) × Knows (opening_of self.now) (known_by other.new) }
     {
-        self.learn(one, other);
-        self.learn(other, one);
+        self.learn::<Brand>(one, other);
+        self.learn::<Brand>(other, one);
     }
 }

@@ -6,13 +6,17 @@
 
 mod answers;
 mod calls;
+mod laws;
 mod page_pass;
 mod pages;
 mod plays;
 mod slot;
+mod sweeps;
 mod view;
 
 pub use answers::{Access, Load};
+pub use laws::{answers_follow_the_steps, passes_that_met_fit};
 pub use page_pass::{PagePass, Passes};
 pub use pages::Pages;
+pub use sweeps::meet_all;
 pub use view::{Hold, Made, Opening, Sight, View};

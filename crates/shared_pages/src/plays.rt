@@ -1,9 +1,10 @@
 //! The rule of the table, and the kinds of steps on it.
 
-ghost use Rattle.std.specs.Prelude.{ℕ, replicate, []};
+ghost use Rattle.std.specs.Prelude.{replicate, []};
 ghost use Rattle.smbd_base.specs.declared.page_event.PageEvent.{PageEvent};
 ghost use Rattle.smbd_base.specs.declared.page_event.PageEvent.TheVariants.{Unload};
-ghost use Rattle.shared_pages.specs.Rule.{Kept, new_sight, held, given, kept, met, copied, joined, fewer, next_pass};
+ghost use Rattle.shared_pages.specs.Rule.{Kept, new_sight, held, given, kept, met, looked, copied, joined, fewer, next_pass};
+ghost use Rattle.shared_pages.specs.declared.view.Opening.{Opening};
 ghost use Rattle.shared_pages.specs.declared.view.View.TheVariants.{Rest, Spent};
 
 use crate::slot::Slot;
@@ -20,13 +21,13 @@ impl TableRule<Option<Slot>, View, Opening> for Order {
     ghost first = { λ pool. Rest 0 (replicate pool.pages []) };
 }
 
-/// The generation of the pages' first loads, which each call picks.
+/// How the pool was opened, which each call picks.
 pub trait Opens {
-    ghost first: { ℕ };
+    ghost opening: { Opening };
 }
 
 impl Opens for Brand {
-    ghost first = { 1 };
+    ghost opening = { record { pages = 1; first = 1; seats = 1 } };
 }
 
 /// A swap that takes a page in hand.
@@ -35,7 +36,7 @@ pub struct Holds<J> {
 }
 
 impl<J: Opens> Play<Option<Slot>, View> for Holds<J> {
-    ghost then = { held J.first };
+    ghost then = { held J.opening.first };
 }
 
 /// The event of a step, which each call picks.
@@ -64,10 +65,21 @@ impl Play<Option<Slot>, View> for LetsGo {
 }
 
 /// A pass learns what another one has seen.
-pub struct Meet;
+pub struct Meet<J> {
+    of: PhantomData<J>,
+}
 
-impl Play<Option<Slot>, View> for Meet {
-    ghost then = { met };
+impl<J: Opens> Play<Option<Slot>, View> for Meet<J> {
+    ghost then = { met J.opening };
+}
+
+/// A pass changes nothing.
+pub struct Looks<J> {
+    of: PhantomData<J>,
+}
+
+impl<J: Opens> Play<Option<Slot>, View> for Looks<J> {
+    ghost then = { looked J.opening };
 }
 
 /// The next pass is made.

@@ -71,7 +71,8 @@ impl Slot {
 
     /// The token under which the page is loaded.
     pub fn token(&self, page: u8) -> Option<Token>
-        ensures { result ≡ live_token page self.now }
+        ensures token { result ≡ live_token page self.now }
+        ensures bound { self.now.generation ≤ LAST_GENERATION }
     {
         match self.right {
             Some(_) => Some(Token::new(page, self.generation)),

@@ -4,11 +4,12 @@ use smbd_base::{PageEvent, Right, Token};
 use std::collections::LinkedList;
 use std::marker::Model;
 
-/// How a pool was opened: how many pages it has, and the generation of their first loads.
+/// How a pool was opened: how many pages it has, the generation of their first loads, and how many passes it has.
 #[derive(Clone, Copy, Drop)]
 pub struct Opening {
     pub pages: usize,
     pub first: u32,
+    pub seats: u8,
 }
 
 /// A page event, and the number of the pass that made it.
@@ -35,6 +36,8 @@ pub enum Hold {
 /// What a pass knows.
 pub struct Sight {
     pub number: u8,
+    /// The events that the pass made, the newest one first.
+    pub made: LinkedList<PageEvent>,
     /// Of each page, the entries that were seen, the newest one first.
     pub seen: LinkedList<LinkedList<Made>>,
     /// What another pass has seen, where the two meet.

@@ -7,16 +7,16 @@ use Rattle.shared_pages.specs.declared.view.View.TheVariants.{One}
 use Rattle.shared_pages.specs.declared.view.Sight.{Sight}
 use Rattle.shared_pages.specs.declared.answers.Access.TheVariants.{Done}
 use Rattle.shared_pages.specs.Rule.{Sat, sight_of}
-use Rattle.shared_pages.specs.Calls.{with_log, with_event, HasSeen, IsLifeAfter}
+use Rattle.shared_pages.specs.Calls.{with_event, IsLifeAfter}
 use Rattle.shared_pages.specs.Answers.{fetch_answer}
-use Rattle.shared_pages.proofs.InHand.{rests_by, may_give, given-seat}
+use Rattle.shared_pages.proofs.InHand.{rests_by, may_give, given-seat, given-few}
 use Rattle.shared_pages.proofs.pages.Pages.fetch.Goals as goal
 
 pub give_back-requires-clause-may : goal.give_back-requires-clause-may
 give_back-requires-clause-may c =
-    let at : c.from-place.result ≡ c.args.token.page = search rules in
+    let at : c.from-page.result ≡ c.args.token.page = search rules in
     may_give _ _ _ _ _ _ c.in-Some.ensures.held (events.Fetch c.args.token c.args.at c.fetch.new.out) c.in-Some.slot (sym at) (c.fetch.ensures) (refl)
-    (λ log seen. c.requires.few log (subst (λ (p : ℕ). HasSeen (sight_of c.args.pass.now.seat.me.0) p log) at seen))
+    c.requires.few
 
 pub invariant_of-pass-2 : goal.invariant_of-pass-2
 invariant_of-pass-2 c =
@@ -28,13 +28,13 @@ invariant_of-pass-2 c =
 
 pub returns-clause-tells : goal.returns-clause-tells
 returns-clause-tells c = λ no.
-    let at : c.from-place.result ≡ c.args.token.page = search rules in
+    let at : c.from-page.result ≡ c.args.token.page = search rules in
     let allowed : Done ≡ fetch_answer c.args.token c.in-Some.slot = search rules in
     let first = c.args.self.now.table.shared.key.first in
     let event : PageState → PageEvent = λ s. events.Fetch c.args.token c.args.at c.fetch.new.out in
     let h = c.in-Some.ensures.held in
     let v : Sight = sight_of c.args.pass.now.seat.me.0 in
-    let seat : c.give_back.new.seat.me ≡ (One (with_log v c.from-place.result (with_event v (events.Fetch c.args.token c.args.at c.fetch.new.out) h.log)), []) =
+    let seat : c.give_back.new.seat.me ≡ (One (with_event v c.from-page.result (events.Fetch c.args.token c.args.at c.fetch.new.out) h.log), []) =
     given-seat _ _ _ _ _ _ h (events.Fetch c.args.token c.args.at c.fetch.new.out) c.give_back.new.seat.me c.give_back.ensures.given c.args.pass.now.rests.1 in
     record {
       log = h.log;
@@ -42,8 +42,11 @@ returns-clause-tells c = λ no.
       answer = allowed ∙ ap (λ (s : PageState). fetch_answer c.args.token s) h.stands;
       done = λ _. (
         subst (λ (s : PageState). IsPageStep (event s) s) h.stands (c.fetch.ensures),
-        ap (λ (m : Sat). sight_of m.0) seat ∙ ap (λ (p : ℕ). with_log v p (with_event v (events.Fetch c.args.token c.args.at c.fetch.new.out) h.log)) at
-            ∙ ap (λ (e : PageEvent). with_log v c.args.token.page (with_event v e h.log)) (ap event h.stands),
+        ap (λ (m : Sat). sight_of m.0) seat ∙ ap (λ (p : ℕ). with_event v p (events.Fetch c.args.token c.args.at c.fetch.new.out) h.log) at
+            ∙ ap (λ (e : PageEvent). with_event v c.args.token.page e h.log) (ap event h.stands),
       );
       refused = λ ne. absurd (ne refl);
     }
+
+pub returns-clause-few : goal.returns-clause-few
+returns-clause-few c = given-few _ _ _ _ _ _ c.in-Some.ensures.held (events.Fetch c.args.token c.args.at c.fetch.new.out) c.give_back.new.seat.me c.give_back.ensures.given c.args.pass.now.rests.1

@@ -1,6 +1,7 @@
 -- The page goes back as it was, or loaded.
-use Rattle.std.proofs.Common.{rules, ◌≡◌, ℕ, sym, ap, ◌∙◌, subst}
+use Rattle.std.proofs.Common.{rules, ◌≡◌, ℕ, sym, ap, ◌∙◌, subst, ◌≤◌}
 use Rattle.std.proofs.Common.{[]}
+use Rattle.smbd_base.specs.declared.token.TheConstants.{LAST_GENERATION}
 use Rattle.smbd_base.specs.Tokens.{PageToken}
 use Rattle.smbd_base.specs.Pages.{PageState, IsPageStep}
 use Rattle.shared_pages.specs.declared.view.View.TheVariants.{One}
@@ -8,9 +9,9 @@ use Rattle.shared_pages.specs.declared.view.Sight.{Sight}
 use Rattle.shared_pages.specs.declared.answers.Load.TheVariants.{Loaded}
 use Rattle.smbd_base.specs.declared.page_event.PageEvent.TheVariants.{Load}
 use Rattle.shared_pages.specs.Rule.{Sat, sight_of}
-use Rattle.shared_pages.specs.Calls.{with_log, with_event, HasSeen, IsInHand}
+use Rattle.shared_pages.specs.Calls.{with_event, HasSeen, IsInHand}
 use Rattle.shared_pages.specs.Answers.{load_answer}
-use Rattle.shared_pages.proofs.InHand.{rests_by, may_let_go, may_give, given-seat}
+use Rattle.shared_pages.proofs.InHand.{rests_by, may_let_go, may_give, given-seat, given-few}
 use Rattle.shared_pages.proofs.Answering.{answers_loaded}
 use Rattle.shared_pages.proofs.pages.Pages.load.Goals as goal
 
@@ -25,7 +26,7 @@ give_back-requires-clause-may c =
     let at : c.from-place.result ≡ c.args.page = search rules in
     may_give _ _ _ _ _ _ c.in-Some.ensures.held (Load c.load-token.result c.args.right c.args.bytes.now) c.load-token.new.self
     (ap (λ (t : PageToken). t.page) c.load-token.ensures.token ∙ sym at) c.load-token.ensures.step c.load-token.ensures.after
-    (λ log seen. c.requires.few log (subst (λ (p : ℕ). HasSeen (sight_of c.args.pass.now.seat.me.0) p log) at seen))
+    c.requires.few
 
 pub invariant_of-pass-2 : goal.invariant_of-pass-2
 invariant_of-pass-2 c =
@@ -42,13 +43,17 @@ returns-clause-tells c = λ no.
     let event = Load c.load-token.result c.args.right c.args.bytes.now in
     let h = c.in-Some.ensures.held in
     let v : Sight = sight_of c.args.pass.now.seat.me.0 in
-    let seat : c.give_back.new.seat.me ≡ (One (with_log v c.from-place.result (with_event v event h.log)), []) =
+    let seat : c.give_back.new.seat.me ≡ (One (with_event v c.from-place.result event h.log), []) =
     given-seat _ _ _ _ _ _ h event c.give_back.new.seat.me c.give_back.ensures.given c.args.pass.now.rests.1 in
     record {
       log = h.log;
       life = subst (λ (p : ℕ). Rattle.shared_pages.specs.Calls.IsLifeAfter first p v h.log) at h.life;
+      most = subst (λ (s : PageState). s.generation ≤ LAST_GENERATION) h.stands (search rules);
       answer = ap Loaded c.load-token.ensures.token ∙ answers_loaded c.args.page c.in-Some.slot.generation c.in-Some.slot.loaded (search rules) (sym c.is_spent.ensures.value ∙ c.if-is_spent.false)
           ∙ ap (λ (s : PageState). load_answer c.args.page s) h.stands;
-      loaded = (subst (IsPageStep event) h.stands c.load-token.ensures.step, ap (λ (m : Sat). sight_of m.0) seat ∙ ap (λ (p : ℕ). with_log v p (with_event v event h.log)) at);
+      loaded = (subst (IsPageStep event) h.stands c.load-token.ensures.step, ap (λ (m : Sat). sight_of m.0) seat ∙ ap (λ (p : ℕ). with_event v p event h.log) at);
       refused = tt;
     }
+
+pub returns-clause-few : goal.returns-clause-few
+returns-clause-few c = given-few _ _ _ _ _ _ c.in-Some.ensures.held (Load c.load-token.result c.args.right c.args.bytes.now) c.give_back.new.seat.me c.give_back.ensures.given c.args.pass.now.rests.1

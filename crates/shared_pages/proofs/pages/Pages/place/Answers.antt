@@ -7,9 +7,9 @@ use Rattle.shared_pages.specs.declared.view.View.TheVariants.{One}
 use Rattle.shared_pages.specs.declared.view.Sight.{Sight}
 use Rattle.shared_pages.specs.declared.answers.Access.TheVariants.{Done}
 use Rattle.shared_pages.specs.Rule.{Sat, sight_of}
-use Rattle.shared_pages.specs.Calls.{with_log, with_event, HasSeen, IsLifeAfter}
+use Rattle.shared_pages.specs.Calls.{with_event, IsLifeAfter}
 use Rattle.shared_pages.specs.Answers.{place_answer, places_had}
-use Rattle.shared_pages.proofs.InHand.{rests_by, may_give, given-seat}
+use Rattle.shared_pages.proofs.InHand.{rests_by, may_give, given-seat, given-few}
 use Rattle.shared_pages.proofs.pages.Pages.place.Goals as goal
 
 pub give_back-requires-clause-may : goal.give_back-requires-clause-may
@@ -17,7 +17,7 @@ give_back-requires-clause-may c =
     let counted : c.from-order.result ≡ places_had c.in-Some.slot.loaded = search rules in
     let at : c.from-place.result ≡ c.args.token.page = search rules in
     may_give _ _ _ _ _ _ c.in-Some.ensures.held (events.Place c.args.token c.from-order.result c.args.at c.args.bytes.now) c.place.new.self (sym at) (subst (λ (n : ℕ). IsPageStep (events.Place c.args.token n c.args.at c.args.bytes.now) c.in-Some.slot) (sym counted) c.place.ensures.step) (c.place.ensures.after ∙ ap (λ (n : ℕ). page_after (events.Place c.args.token n c.args.at c.args.bytes.now) c.in-Some.slot) (sym counted))
-    (λ log seen. c.requires.few log (subst (λ (p : ℕ). HasSeen (sight_of c.args.pass.now.seat.me.0) p log) at seen))
+    c.requires.few
 
 pub invariant_of-pass-2 : goal.invariant_of-pass-2
 invariant_of-pass-2 c =
@@ -36,7 +36,7 @@ returns-clause-tells c = λ no.
     let event : PageState → PageEvent = λ s. events.Place c.args.token (places_had s.loaded) c.args.at c.args.bytes.now in
     let h = c.in-Some.ensures.held in
     let v : Sight = sight_of c.args.pass.now.seat.me.0 in
-    let seat : c.give_back.new.seat.me ≡ (One (with_log v c.from-place.result (with_event v (events.Place c.args.token c.from-order.result c.args.at c.args.bytes.now) h.log)), []) =
+    let seat : c.give_back.new.seat.me ≡ (One (with_event v c.from-place.result (events.Place c.args.token c.from-order.result c.args.at c.args.bytes.now) h.log), []) =
     given-seat _ _ _ _ _ _ h (events.Place c.args.token c.from-order.result c.args.at c.args.bytes.now) c.give_back.new.seat.me c.give_back.ensures.given c.args.pass.now.rests.1 in
     record {
       log = h.log;
@@ -44,8 +44,11 @@ returns-clause-tells c = λ no.
       answer = allowed ∙ ap (λ (s : PageState). place_answer c.args.token s) h.stands;
       done = λ _. (
         subst (λ (s : PageState). IsPageStep (event s) s) h.stands (c.place.ensures.step),
-        ap (λ (m : Sat). sight_of m.0) seat ∙ ap (λ (p : ℕ). with_log v p (with_event v (events.Place c.args.token c.from-order.result c.args.at c.args.bytes.now) h.log)) at
-            ∙ ap (λ (e : PageEvent). with_log v c.args.token.page (with_event v e h.log)) (ap (λ (n : ℕ). events.Place c.args.token n c.args.at c.args.bytes.now) counted ∙ ap event h.stands),
+        ap (λ (m : Sat). sight_of m.0) seat ∙ ap (λ (p : ℕ). with_event v p (events.Place c.args.token c.from-order.result c.args.at c.args.bytes.now) h.log) at
+            ∙ ap (λ (e : PageEvent). with_event v c.args.token.page e h.log) (ap (λ (n : ℕ). events.Place c.args.token n c.args.at c.args.bytes.now) counted ∙ ap event h.stands),
       );
       refused = λ ne. absurd (ne refl);
     }
+
+pub returns-clause-few : goal.returns-clause-few
+returns-clause-few c = given-few _ _ _ _ _ _ c.in-Some.ensures.held (events.Place c.args.token c.from-order.result c.args.at c.args.bytes.now) c.give_back.new.seat.me c.give_back.ensures.given c.args.pass.now.rests.1

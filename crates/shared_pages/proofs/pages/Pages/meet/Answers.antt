@@ -1,0 +1,18 @@
+-- Both have seen the same.
+use Rattle.std.proofs.Common.{◌≡◌, List, length, sym, ap, ◌∙◌}
+use Rattle.shared_pages.specs.declared.view.Sight.{Sight}
+use Rattle.shared_pages.specs.Rule.{Log, longest}
+use Rattle.shared_pages.specs.Calls.{known_by}
+use Rattle.shared_pages.proofs.Learning.{both-same}
+use Rattle.shared_pages.proofs.pages.Pages.meet.Goals as goal
+
+pub returns-clause-other : goal.returns-clause-other
+returns-clause-other c =
+    let a = (known_by c.args.one.now).seen in
+    let b = (known_by c.args.other.now).seen in
+    let seen : Sight → List Log = λ v. v.seen in
+    let one : (known_by c.learn-2.new.other).seen ≡ longest a b = ap seen c.learn-2.ensures.other ∙ ap seen c.learn.ensures.one in
+    let other : (known_by c.learn-2.new.one).seen ≡ longest b (known_by c.learn-2.new.other).seen =
+    ap seen c.learn-2.ensures.one ∙ ap (λ (v : Sight). longest v.seen (known_by c.learn.new.one).seen) c.learn.ensures.other ∙ ap (λ (v : Sight). longest b v.seen) (sym c.learn-2.ensures.other) in
+    both-same _ a b (known_by c.learn-2.new.other).seen (known_by c.learn-2.new.one).seen one other
+    (ap (λ (v : Sight). length v.seen) c.learn-2.ensures.other ∙ c.learn.ensures.knows.pages) c.learn-2.ensures.knows.pages
