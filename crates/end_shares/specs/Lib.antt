@@ -1,0 +1,4 @@
+pub mod Turns
+pub mod Clients
+pub mod Servers
+pub mod Shares
