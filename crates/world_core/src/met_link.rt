@@ -39,15 +39,11 @@ impl Model for MetLink {
 
 impl MetLink {
     /// A link at which both ends have posted their receives, and have met.
-    pub fn open(
-        alloc: Global,
-        client: &EndLimits,
-        server: &EndLimits,
-    ) -> Result<MetLink, NoMemory>
+    pub fn open(alloc: Global, client: &EndLimits, server: &EndLimits) -> Result<MetLink, NoMemory>
         ensures { IfOk result (λ l. l ≡ record {
-            ends = record { client = client.now; server = server.now };
-            client = events.Post client.now.credits ∷ [];
-            server = events.Post server.now.credits ∷ [];
+          ends = record { client = client.now; server = server.now };
+          client = events.Post client.now.credits ∷ [];
+          server = events.Post server.now.credits ∷ [];
         }) }
     {
         let (link, mut client, mut server) = Link::open(alloc, client, server)?;
