@@ -11,7 +11,7 @@ use Rattle.smbd_base.specs.DataFrame.{data_frame_of}
 use Rattle.smbd_base.specs.History.{asks, pieces_sent}
 use Rattle.smbd_base.specs.Joint.{AreJoint, emitted_frames, taken_frames}
 use Rattle.smbd_base.proofs.Counting.{is_empty, silent_is, unheard_is}
-use Rattle.empty_frames.specs.EmptyFrames.{empty_frames_sent, empty_answers_sent, empty_grants_sent, asking_frames_sent, asking_frames_taken, empty_frames_of_both, filled_frames_of_both}
+use Rattle.empty_frames.specs.EmptyFrames.{empty_frames_sent, empty_answers_sent, empty_grants_sent, asking_frames_sent, asking_frames_taken, empty_frames_of_both, filled_frames_of_both, SendFewEmpty}
 use Rattle.empty_frames.proofs.Answering.{answers_asked, answers_or_grants, sent_most, asking_sent}
 use Rattle.empty_frames.proofs.Granting.{grants_taken}
 
@@ -112,3 +112,10 @@ pub bounded_lawful : (client_limits server_limits : Limits) (client server : Lis
     → AreJoint client_limits server_limits client server → empty_frames_of_both client server ≤ 3 * filled_frames_of_both client server + 6
 bounded_lawful client_limits server_limits client server lawful lawful' j =
     omega (arith, bounded client_limits server_limits client server 3 lawful lawful' j lawful.credits.0 lawful'.credits.0)
+
+pub few_empty : (client_limits server_limits : Limits) (client server : List Event) → IsLawful client_limits → IsLawful server_limits
+    → AreJoint client_limits server_limits client server → SendFewEmpty client_limits server_limits client server
+few_empty client_limits server_limits client server lawful lawful' j = record {
+  any = λ least within within'. bounded client_limits server_limits client server least lawful lawful' j within within';
+  lawful = bounded_lawful client_limits server_limits client server lawful lawful' j;
+}

@@ -1,10 +1,11 @@
 -- Data transfer messages without payload, and the responses that are asked for (MS-SMBD 2.2.3, 3.1.5.1 and 3.1.5.9; when a
 -- frame goes out is this project's own). The first frame that an end sends or takes is a negotiation message, each later one a
 -- data transfer message. A past is a list of events, the newest one first.
-use Rattle.std.specs.Prelude.{ℕ, ◌+◌, ◌==◌, not, ◌&&◌, Bool, false, Result, Ok, Err, List, [], ◌∷◌, length, if◌then◌else◌}
+use Rattle.std.specs.Prelude.{ℕ, ◌+◌, ◌-◌, ◌*◌, ◌≤◌, ◌==◌, not, ◌&&◌, Bool, false, Result, Ok, Err, List, [], ◌∷◌, length, if◌then◌else◌}
 use Rattle.smbd_base.specs.declared.event.Event.{Event}
 use Rattle.smbd_base.specs.declared.event.Event.TheVariants.{Post, Submit, Emit, Take, Cut}
 use Rattle.smbd_base.specs.declared.faults.FrameFault.{FrameFault}
+use Rattle.smbd_base.specs.Limits.{Limits}
 use Rattle.smbd_base.specs.Counts.{is_silent, is_unheard}
 use Rattle.smbd_base.specs.DataFrame.{DataFrame, data_frame_of}
 use Rattle.smbd_base.specs.History.{asks, is_response_owed, pieces_sent}
@@ -80,3 +81,11 @@ empty_frames_of_both client server = empty_frames_sent client + empty_frames_sen
 -- the data transfer messages with payload that either end sent
 abbrev pub filled_frames_of_both : List Event → List Event → ℕ
 filled_frames_of_both client server = pieces_sent client + pieces_sent server
+
+-- the two ends flood each other with no messages without payload: beside those with payload there are few
+pub record SendFewEmpty (client_limits server_limits : Limits) (client server : List Event) : Type 0 where
+  -- where each end has at least `least` credits
+  pub any : (least : ℕ) → least ≤ client_limits.credits → least ≤ server_limits.credits
+      → (least - 2) * empty_frames_of_both client server ≤ least * filled_frames_of_both client server + 2 * least
+  -- with any lawful limits
+  pub lawful : empty_frames_of_both client server ≤ 3 * filled_frames_of_both client server + 6

@@ -10,7 +10,7 @@ use Rattle.smbd_base.specs.Joint.{AreJoint, emitted_frames, taken_frames}
 use Rattle.smbd_base.proofs.BalanceLemmas.{balanced}
 use Rattle.smbd_base.proofs.Counting.{is_empty, silent_is, unheard_is}
 use Rattle.joint_laws.proofs.Growing.{client_beside}
-use Rattle.quiet_ends.specs.QuietEnds.{AreQuiet, HasSentAll, HaveDeliveredAll}
+use Rattle.quiet_ends.specs.QuietEnds.{AreQuiet, HasSentAll, HaveDeliveredAll, DeliverAllOnceQuiet}
 use Rattle.quiet_ends.proofs.Idling.{IsIdle, idle, agreed, HasNoneInFlight, none_in_flight, none_left, delivered_all}
 use Rattle.quiet_ends.proofs.Waiting.{IsFree, both_free}
 
@@ -82,3 +82,8 @@ quiet_delivered client_limits server_limits client server lawful lawful' j q =
           delivered_all Server server_limits client_limits server client lawful' lawful h.there.legal h.here.legal h.there.accepted h.here.in_time.front q.to_server
           client_agreed client_sent.waiting;
     }
+
+pub all_once_quiet : (client_limits server_limits : Limits) (client server : List Event) → IsLawful client_limits → IsLawful server_limits
+    → AreJoint client_limits server_limits client server → DeliverAllOnceQuiet client_limits server_limits client server
+all_once_quiet client_limits server_limits client server lawful lawful' j =
+    record { quiet = λ q. quiet_delivered client_limits server_limits client server lawful lawful' j q }

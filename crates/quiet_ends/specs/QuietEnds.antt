@@ -34,3 +34,7 @@ pub record HaveDeliveredAll (client_limits server_limits : Limits) (client serve
   pub of_server : HasSentAll Server server_limits server
   pub to_client : messages_delivered Client client_limits client ≡ messages_submitted server
   pub to_server : messages_delivered Server server_limits server ≡ messages_submitted client
+
+-- once the two ends are quiet, they have delivered all
+pub record DeliverAllOnceQuiet (client_limits server_limits : Limits) (client server : List Event) : Type 0 where
+  pub quiet : AreQuiet client_limits server_limits client server → HaveDeliveredAll client_limits server_limits client server

@@ -7,3 +7,4 @@ pub mod Posting
 pub mod Emitting
 pub mod Taking
 pub mod Meeting
+pub mod Concluding

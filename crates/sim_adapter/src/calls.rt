@@ -5,6 +5,8 @@ ghost use Rattle.smbd_base.specs.declared.end_id.EndId.TheVariants.{Client, Serv
 ghost use Rattle.smbd_base.specs.declared.event.Event.TheVariants as events;
 ghost use Rattle.smbd_base.specs.Joint.{emitted_frames};
 ghost use Rattle.smbd_base.specs.History.{is_cut, is_post_due};
+ghost use Rattle.empty_frames.specs.EmptyFrames.{SendFewEmpty};
+ghost use Rattle.quiet_ends.specs.QuietEnds.{DeliverAllOnceQuiet};
 ghost use Rattle.sim_adapter.specs.Rule.{opened, MayGrow};
 ghost use Rattle.sim_adapter.specs.Plays.{with_event, learned, AreMet};
 ghost use Rattle.sim_adapter.specs.Passes.{known_by, history_of, IsOf, MayComeNext};
@@ -153,7 +155,8 @@ impl Link {
         self.table.shared.swap::<Cuts>(&mut pass.seat, CUT_WORD, 1);
     }
 
-    /// Both ends meet: their histories fit together, and each has then seen all that the other sent.
+    /// Both ends meet: their histories fit together, and each has then seen all that the other sent. So they have sent few messages
+    /// without payload, and where both are quiet all that was submitted is delivered.
     pub fn meet(&self, client: &mut Pass, server: &mut Pass)
         requires own { IsOf self.now client.old × IsOf self.now server.old }
         requires sides { ((known_by client.old).side ≡ Client) × ((known_by server.old).side ≡ Server) }
@@ -161,6 +164,8 @@ impl Link {
         ensures client { known_by client.new ≡ learned (known_by client.old) (length (emitted_frames (history_of server.old))) }
         ensures server { known_by server.new ≡ learned (known_by server.old) (length (emitted_frames (history_of client.old))) }
         ensures met { AreMet (known_by client.new) (known_by server.new) }
+        ensures few_empty { SendFewEmpty (known_by client.new).ends.client (known_by client.new).ends.server (history_of client.new) (history_of server.new) }
+        ensures quiet { DeliverAllOnceQuiet (known_by client.new).ends.client (known_by client.new).ends.server (history_of client.new) (history_of server.new) }
     {
         let shared = &self.table.shared;
         let handed = shared.split_seat::<HandOver>(&mut server.seat);

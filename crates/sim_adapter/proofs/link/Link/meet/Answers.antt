@@ -1,12 +1,15 @@
-use Rattle.std.proofs.Common.{rules, ◌≡◌, sym, ap, subst, ◌∙◌, []}
+use Rattle.std.proofs.Common.{rules, ◌≡◌, length, sym, ap, subst, ◌∙◌, []}
 use Rattle.atomic_table.specs.Table.{Splits, Joins, Allows, step}
 use mathlib.Core.Option.{none}
+use Rattle.smbd_base.specs.Joint.{emitted_frames}
+use Rattle.sim_adapter.specs.declared.view.EndView.{EndView}
 use Rattle.sim_adapter.specs.declared.view.View.{View}
 use Rattle.sim_adapter.specs.declared.view.View.TheVariants.{Spent, Both}
 use Rattle.sim_adapter.specs.Rule.{Sat, Orderly, end_of, left_end, right_end}
-use Rattle.sim_adapter.specs.Plays.{learned, united, met}
+use Rattle.sim_adapter.specs.Plays.{learned, united, met, AreMet}
 use Rattle.sim_adapter.proofs.Opening.{parts}
 use Rattle.sim_adapter.proofs.Meeting.{hands_over, unites, takes_back, meets}
+use Rattle.sim_adapter.proofs.Concluding.{few_met, quiet_met}
 use Rattle.sim_adapter.proofs.link.Link.meet.Goals as goal
 
 pub split_seat-handed-requires : goal.split_seat-handed-requires
@@ -54,3 +57,17 @@ join_seat-requires-2 c = let k = c.args.self.now.table.shared.key in let p = c.a
       search rules,
       subst (λ (z : View × View). Joins (Orderly k) c.split_seat-handed.new.seat.id z.0 c.split_seat-back.result.id z.1 (united z.0 z.1) Spent) (λ i. (sym spent i, sym back i)) (takes_back k _ _ _),
     )
+
+pub returns-clause-few_empty : goal.returns-clause-few_empty
+returns-clause-few_empty c = let p = c.args.client.now in let before : EndView = end_of p.seat.me.0 in let seen = length (emitted_frames (end_of c.args.server.now.seat.me.0).past) in
+    let client : EndView = end_of c.split_seat-back.new.seat.me.0 in let server : EndView = end_of c.join_seat-2.new.seat.me.0 in
+    let told : client ≡ learned before seen = search rules in
+    let met : AreMet client server = search rules in
+    few_met p.ends client server before seen told p.keyed p.lawful met
+
+pub returns-clause-quiet : goal.returns-clause-quiet
+returns-clause-quiet c = let p = c.args.client.now in let before : EndView = end_of p.seat.me.0 in let seen = length (emitted_frames (end_of c.args.server.now.seat.me.0).past) in
+    let client : EndView = end_of c.split_seat-back.new.seat.me.0 in let server : EndView = end_of c.join_seat-2.new.seat.me.0 in
+    let told : client ≡ learned before seen = search rules in
+    let met : AreMet client server = search rules in
+    quiet_met p.ends client server before seen told p.keyed p.lawful met
