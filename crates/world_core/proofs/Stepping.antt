@@ -18,8 +18,10 @@ use Rattle.world_core.specs.declared.choice.Step.{Step}
 use Rattle.world_core.specs.Choices.{end_of}
 use Rattle.world_core.specs.Linked.{Linked, event_at, own_after, peer_after}
 use Rattle.world_core.specs.Paired.{state_of, ArePaired, IsPair}
-use Rattle.world_core.specs.Run.{State, linked_of, frames_in_flight, messages_left, event_chosen, link_after, order_after, state_after, step_of, AreDelivered}
+use Rattle.world_core.specs.Run.{State, linked_of, frames_in_flight, messages_left, event_chosen, link_after, order_after, state_after, step_of, AreDelivered, SendFewEmptyIn, DeliverAllOnceQuietIn}
 use Rattle.smbd_laws.proofs.Delivering.{server_delivers, client_delivers}
+use Rattle.empty_frames.proofs.Bounding.{few_empty}
+use Rattle.quiet_ends.proofs.Quieting.{all_once_quiet}
 use Rattle.world_core.proofs.Pairing.{pair_after}
 
 -- ---- a client and a server
@@ -88,6 +90,12 @@ delivered client server link_cut order h = record {
   to_server = server_delivers client.limits server.limits client.past server.past h.client_lawful h.server_lawful h.joint.linked;
   to_client = client_delivers client.limits server.limits client.past server.past h.client_lawful h.server_lawful h.joint.linked;
 }
+
+pub few : (client server : Linked) (link_cut : Bool) (order : List EndId) → ArePaired client server → SendFewEmptyIn (state_of client server link_cut order)
+few client server link_cut order h = few_empty client.limits server.limits client.past server.past h.client_lawful h.server_lawful h.joint
+
+pub once_quiet : (client server : Linked) (link_cut : Bool) (order : List EndId) → ArePaired client server → DeliverAllOnceQuietIn (state_of client server link_cut order)
+once_quiet client server link_cut order h = all_once_quiet client.limits server.limits client.past server.past h.client_lawful h.server_lawful h.joint
 
 -- ---- after a choice
 

@@ -9,6 +9,8 @@ use Rattle.smbd_base.specs.Limits.{Limits}
 use Rattle.smbd_base.specs.Delivery.{messages_delivered}
 use Rattle.smbd_base.specs.History.{messages_submitted}
 use Rattle.smbd_base.specs.Joint.{AreJoint, emitted_frames, taken_frames}
+use Rattle.empty_frames.specs.EmptyFrames.{SendFewEmpty}
+use Rattle.quiet_ends.specs.QuietEnds.{DeliverAllOnceQuiet}
 use Rattle.world_core.specs.declared.choice.Choice.{Choice}
 use Rattle.world_core.specs.Choices.{end_of, cuts_link}
 use Rattle.world_core.specs.Linked.{Linked, event_at}
@@ -117,3 +119,11 @@ AreJointIn state = AreJoint state.client_limits state.server_limits state.client
 pub record AreDelivered (state : State) : Type 0 where
   pub to_server : IsPrefix (messages_delivered Server state.server_limits state.server) (messages_submitted state.client)
   pub to_client : IsPrefix (messages_delivered Client state.client_limits state.client) (messages_submitted state.server)
+
+-- both ends together have sent few messages without payload
+abbrev pub SendFewEmptyIn : State → Type 0
+SendFewEmptyIn state = SendFewEmpty state.client_limits state.server_limits state.client state.server
+
+-- where nothing can happen any more at either end, all that was submitted is delivered
+abbrev pub DeliverAllOnceQuietIn : State → Type 0
+DeliverAllOnceQuietIn state = DeliverAllOnceQuiet state.client_limits state.server_limits state.client state.server

@@ -10,7 +10,7 @@ ghost use Rattle.world_core.specs.Attached.{linked_to, AreTied};
 ghost use Rattle.world_core.specs.Linked.{event_at, own_after, peer_after};
 ghost use Rattle.world_core.specs.Paired.{IsPair};
 ghost use Rattle.world_core.specs.Newest.{newest_brought};
-ghost use Rattle.world_core.specs.Run.{State, past_of, limits_of, event_chosen, step_of, opened_world, run_of, link_after, order_after, AreJointIn, AreDelivered};
+ghost use Rattle.world_core.specs.Run.{State, past_of, limits_of, event_chosen, step_of, opened_world, run_of, link_after, order_after, AreJointIn, AreDelivered, SendFewEmptyIn, DeliverAllOnceQuietIn};
 
 use crate::choice::{Choice, Step};
 use crate::linked_end::{LinkedEnd, act};
@@ -74,6 +74,8 @@ impl World {
         ensures same { OnErr result (self.new ≡ self.old) }
         ensures joint { AreJointIn self.new }
         ensures delivered { AreDelivered self.new }
+        ensures few_empty { SendFewEmptyIn self.new }
+        ensures quiet { DeliverAllOnceQuietIn self.new }
     {
         match choice.end() {
             EndId::Client => record_act(
