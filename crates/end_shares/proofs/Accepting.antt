@@ -5,7 +5,7 @@ use Rattle.smbd_base.specs.declared.end_id.EndId.{EndId}
 use Rattle.smbd_base.specs.declared.event.Event.{Event}
 use Rattle.smbd_base.specs.declared.faults.SubmitFault.TheVariants as refusals
 use Rattle.smbd_base.specs.Limits.{Limits}
-use Rattle.smbd_base.specs.History.{next_event, submit_fault, message_limit, is_cut, is_new, is_open, is_ready, is_refused, is_post_due}
+use Rattle.smbd_base.specs.History.{submit_fault, message_limit, is_cut, is_new, is_open, is_ready, is_refused, is_post_due}
 use Rattle.link_ends.specs.declared.link_end.LinkEnd.{LinkEnd}
 use Rattle.link_ends.specs.Beside.{limits_in}
 use Rattle.link_ends.specs.Ends.{view_of, past_of}

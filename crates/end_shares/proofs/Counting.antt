@@ -1,5 +1,5 @@
 -- The frames that are left to be sent.
-use Rattle.std.proofs.Common.{◌≡◌, ℕ, ◌+◌, ◌-◌, ◌<◌, Option, Some, None, refl, ap, subst, sym, arith}
+use Rattle.std.proofs.Common.{◌≡◌, ℕ, ◌+◌, ◌-◌, ◌<◌, Option, Some, None, refl, ap, subst, arith}
 use Rattle.link_ends.specs.declared.answer.Driven.{Driven}
 use Rattle.link_ends.specs.declared.answer.Driven.TheVariants as driven
 use Rattle.copy_ends.specs.Cuts.{AreLeft}
@@ -8,7 +8,6 @@ use Rattle.end_shares.specs.Turns.{frames_in}
 none_sent : (d : Driven) → (d ≡ driven.Sent → ⊥) → frames_in d ≡ 0
 none_sent driven.Posted n = refl
 none_sent driven.Sent n = absurd (n refl)
-none_sent driven.Closed n = refl
 none_sent driven.Cut n = refl
 none_sent driven.Idle n = refl
 

@@ -1,16 +1,16 @@
 -- What an end's share of a round leaves.
-use Rattle.std.proofs.Common.{◌≡◌, ℕ, ◌+◌, ◌<◌, ◌≤◌, Bool, true, false, not, Result, Ok, Err, length, refl, sym, ap, ◌∙◌, subst, arith}
-use Rattle.std.specs.Prelude.{IfOk, OnOk}
+use Rattle.std.proofs.Common.{◌≡◌, ℕ, ◌+◌, ◌<◌, ◌≤◌, Bool, true, false, Result, Ok, Err, length, sym, ap, ◌∙◌, subst, arith}
+use Rattle.std.specs.Prelude.{IfOk}
 use Rattle.smbd_base.specs.declared.end_id.EndId.{EndId}
 use Rattle.smbd_base.specs.declared.no_memory.NoMemory.{NoMemory}
 use Rattle.smbd_base.specs.History.{is_cut}
 use Rattle.sim_adapter.specs.declared.link.Link.{Link}
 use Rattle.sim_adapter.specs.declared.view.EndView.{EndView}
 use Rattle.link_ends.specs.declared.link_end.LinkEnd.{LinkEnd}
-use Rattle.link_ends.specs.Ends.{view_of, past_of, GoesOnAt}
+use Rattle.link_ends.specs.Ends.{view_of, GoesOnAt}
 use Rattle.end_shares.specs.Turns.{IsOn, HasActed, HasAdded, IsIdle, IsAtRest, TakesNothing}
 use Rattle.end_shares.specs.Shares.{IsThrough, HasDoneAtMost}
-use Rattle.end_shares.proofs.Turning.{acted_more, rests}
+use Rattle.end_shares.proofs.Turning.{rests}
 
 -- ---- a turn
 

@@ -1,9 +1,9 @@
 -- What an end on a link does in a turn. A past is a list of events, the newest one first.
-use Rattle.std.specs.Prelude.{◌≡◌, ℕ, ◌+◌, ◌≤◌, Bool, true, false, Option, None, Some, option_to_list, List, [], ◌++◌, length}
+use Rattle.std.specs.Prelude.{◌≡◌, ℕ, ◌+◌, ◌≤◌, Bool, true, false, option_to_list, List, [], ◌++◌, length}
 use Rattle.smbd_base.specs.declared.end_id.EndId.{EndId}
 use Rattle.smbd_base.specs.declared.next.Next.TheVariants as due
 use Rattle.smbd_base.specs.Delivery.{messages_delivered}
-use Rattle.smbd_base.specs.History.{messages_submitted}
+use Rattle.smbd_base.specs.History.{messages_submitted, is_cut}
 use Rattle.smbd_base.specs.Joint.{taken_frames}
 use Rattle.sim_adapter.specs.declared.link.Link.{Link}
 use Rattle.sim_adapter.specs.declared.view.EndView.{EndView}
@@ -23,11 +23,23 @@ pub record IsOn (link : Link) (side : EndId) (e : LinkEnd) : Type 0 where
   pub side_is : (view_of e).side ≡ side
 
 -- events were added to the past of the same end, and it has seen no fewer frames of its peer
+pub record HasGoneOn (old new : EndView) : Type 0 where
+  pub own : HasGrown old.past new.past
+  pub side : new.side ≡ old.side
+  pub ends : new.ends ≡ old.ends
+  pub seen : old.seen ≤ new.seen
+
+-- the end is cut where a look showed that the link is, and only there
+abbrev pub IsCutAsTold : EndView → Type 0
+IsCutAsTold v = v.told_cut ≡ is_cut v.past
+
+-- and it has not cut the link by itself
 pub record HasActed (old new : EndView) : Type 0 where
   pub own : HasGrown old.past new.past
   pub side : new.side ≡ old.side
   pub ends : new.ends ≡ old.ends
   pub seen : old.seen ≤ new.seen
+  pub told : IsCutAsTold old → IsCutAsTold new
 
 -- the messages that an end of this side, with what it knows, has delivered
 abbrev pub delivered_by : EndId → EndView → List (List ℕ)
@@ -60,7 +72,6 @@ pub record IsAtRest (v : EndView) : Type 0 where
 abbrev pub frames_in : Driven → ℕ
 frames_in driven.Posted = 0
 frames_in driven.Sent = 1
-frames_in driven.Closed = 0
 frames_in driven.Cut = 0
 frames_in driven.Idle = 0
 
@@ -68,7 +79,6 @@ frames_in driven.Idle = 0
 abbrev pub is_idle : Driven → Bool
 is_idle driven.Posted = false
 is_idle driven.Sent = false
-is_idle driven.Closed = false
 is_idle driven.Cut = false
 is_idle driven.Idle = true
 

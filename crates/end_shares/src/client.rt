@@ -10,7 +10,7 @@ ghost use Rattle.copy_ends.specs.Clients.{ClientCameBy, HasCome};
 ghost use Rattle.copy_ends.specs.Cuts.{AreLeft, frames_sent};
 ghost use Rattle.link_ends.specs.Ends.{view_of, past_of, IsOf, is_over, next_of, is_emit};
 ghost use Rattle.end_shares.specs.declared.share.Share.TheVariants as shares;
-ghost use Rattle.end_shares.specs.Turns.{IsOn, HasActed, HasAdded, IsIdle, IsAtRest, TakesNothing};
+ghost use Rattle.end_shares.specs.Turns.{IsOn, HasActed, HasGoneOn, IsCutAsTold, HasAdded, IsIdle, IsAtRest, TakesNothing};
 ghost use Rattle.end_shares.specs.Clients.{ClientStands, ClientGoesOn, MayTalk, HasNoRequest, after_hearing};
 ghost use Rattle.end_shares.specs.Shares.{ComesTo, HasDoneAtMost, IsLast, rests};
 
@@ -38,7 +38,8 @@ pub fn run_client<G: Gate>(
     requires talk { MayTalk 64 client.old (view_of end.old) }
     ensures own { IsOf link.now end.new }
     ensures on { OnOk result (IsOn link.now side.Client end.new) }
-    ensures acted { HasActed (view_of end.old) (view_of end.new) }
+    ensures gone_on { HasGoneOn (view_of end.old) (view_of end.new) }
+    ensures told { IfOk result (λ share. (share ≡ shares.Cuts → ⊥) → IsCutAsTold (view_of end.old) → IsCutAsTold (view_of end.new)) }
     ensures most { HasDoneAtMost 64 (view_of end.old) (view_of end.new) }
     ensures goes_on { (kind : CopyKind) (channel : Channel) (pages : ℕ) (past : List ClientEvent) → ClientStands kind channel pages past client.old (view_of end.old)
         → IfOk result (λ share. ClientGoesOn kind channel pages past 64 (rests share) client.new (view_of end.new)) }

@@ -47,7 +47,6 @@ fn is_something(driven: Driven) -> bool
     match driven {
         Driven::Posted => true,
         Driven::Sent => true,
-        Driven::Closed => true,
         Driven::Cut => true,
         Driven::Idle => false,
     }

@@ -1,6 +1,6 @@
 -- What the calls of an end on a link answer.
 use Rattle.std.specs.Prelude.{◌≡◌, ℕ, ◌≤◌, Option, None, option_to_list, List, ◌++◌, length}
-use Rattle.smbd_base.specs.declared.event.Event.TheVariants.{Post, Submit, Emit, Take, Cut}
+use Rattle.smbd_base.specs.declared.event.Event.TheVariants.{Post, Cut}
 use Rattle.smbd_base.specs.declared.next.Next.{Next}
 use Rattle.smbd_base.specs.declared.next.Next.TheVariants as due
 use Rattle.smbd_base.specs.Delivery.{messages_delivered}
@@ -19,7 +19,6 @@ use Rattle.link_ends.specs.Beside.{limits_in}
 abbrev pub HasDriven : Driven → Next → EndView → EndView → Type 0
 HasDriven driven.Posted next v after = (n : ℕ) × (next ≡ due.Post n) × (after ≡ with_event v (Post n))
 HasDriven driven.Sent next v after = (frame : List ℕ) × (next ≡ due.Emit frame) × (after ≡ emits v frame)
-HasDriven driven.Closed next v after = (next ≡ due.Close) × (after ≡ with_event v Cut)
 HasDriven driven.Cut next v after = (frame : List ℕ) × (next ≡ due.Emit frame) × (after ≡ with_event (was_cut v) Cut)
 HasDriven driven.Idle next v after = (next ≡ due.Idle) × (after ≡ v)
 

@@ -9,8 +9,6 @@ pub enum Driven {
     Posted,
     /// A frame was sent.
     Sent,
-    /// A frame had been refused: the link is cut, and the end with it.
-    Closed,
     /// A frame was to be sent, but the link is cut. The end is cut too.
     Cut,
     /// Nothing comes next.

@@ -144,8 +144,8 @@ impl LinkEnd {
         Ok(())
     }
 
-    /// Does what comes next at the end: posts receives, sends a frame, or cuts the link and the end after a frame was refused. Where a
-    /// frame can't be sent since the link is cut, the end is cut. Want of memory changes nothing.
+    /// Does what comes next at the end: posts receives, or sends a frame. Where a frame can't be sent since the link is cut, the end is
+    /// cut. No frame is refused on a link, so that to close never comes next. Want of memory changes nothing.
     pub fn drive<G: Gate>(&mut self, gate: &G, link: &Link) -> Result<Driven, NoMemory>
         requires { GoesOnAt link.now self.old }
         ensures on { GoesOnAt link.now self.new }
@@ -158,10 +158,7 @@ impl LinkEnd {
                 Ok(Driven::Posted)
             }
             Next::Emit(frame) => Ok(self.emit(gate, link, frame)),
-            Next::Close => {
-                self.cut(gate, link);
-                Ok(Driven::Closed)
-            }
+            Next::Close => unreachable!(),
             Next::Idle => Ok(Driven::Idle),
         }
     }

@@ -1,16 +1,17 @@
-use Rattle.std.proofs.Common.{◌≡◌, ℕ, ◌≤◌, ◌+◌, Bool, false, true, not, length, subst, arith, refl, sym, ap, ◌∙◌, [], ◌∷◌}
-use Rattle.smbd_base.specs.declared.end_id.EndId.TheVariants as side
+use Rattle.std.proofs.Common.{◌≡◌, ◌≤◌, ◌+◌, Bool, false, true, not, subst, arith, refl, sym, ap, ◌∙◌}
+use Rattle.smbd_base.specs.declared.event.Event.TheVariants.{Cut}
 use Rattle.smbd_base.specs.History.{is_cut}
 use Rattle.sim_adapter.specs.declared.view.EndView.{EndView}
 use Rattle.sim_adapter.specs.declared.pass.Pass.{Pass}
 use Rattle.sim_adapter.specs.Passes.{known_by}
-use Rattle.link_ends.specs.Ends.{view_of, past_of, next_of, is_emit}
+use Rattle.sim_adapter.specs.Plays.{with_event}
+use Rattle.link_ends.specs.Ends.{view_of, next_of, is_emit}
 use Rattle.copy_ends.specs.Cuts.{AreLeft, frames_sent}
 use Rattle.end_shares.specs.Turns.{HasActed, HasAdded}
 use Rattle.end_shares.specs.Clients.{ClientGoesOn, ClientStands, MayTalk}
-use Rattle.end_shares.proofs.Turning.{acted_none, acted_more, cut_turn}
-use Rattle.end_shares.proofs.Talking.{go_on, at_most, still, may_talk}
-use Rattle.end_shares.proofs.Sharing.{through, most_more, most_so_far, added_more}
+use Rattle.end_shares.proofs.Turning.{acted_none, acted_more, gone_on, gone_one}
+use Rattle.end_shares.proofs.Talking.{go_on, still, may_talk}
+use Rattle.end_shares.proofs.Sharing.{added_more}
 use Rattle.end_shares.proofs.client.run_client.Goals as goal
 
 pub loop-turn-init : goal.loop-turn-init
@@ -47,23 +48,29 @@ cut-requires g c =
       uncut = ap (λ (v : EndView). is_cut v.past) same ∙ sym c.is_cut.ensures ∙ c.if-is_cut.false;
     }
 
-pub returns-then-branch-clause-acted : goal.returns-then-branch-clause-acted
-returns-then-branch-clause-acted g c =
+pub returns-then-branch-clause-gone_on : goal.returns-then-branch-clause-gone_on
+returns-then-branch-clause-gone_on g c =
     let same : view_of c.is_last.new.end ≡ view_of c.loop-turn.end = ap known_by c.is_last.ensures.same in
-    acted_more (view_of c.args.end.now) (view_of c.loop-turn.end) (view_of c.cut.new.self) c.loop-turn.invariant.acted
-    (subst (λ (v : EndView). HasActed v (view_of c.cut.new.self)) same (cut_turn side.Client (view_of c.is_last.new.end) (view_of c.cut.new.self) c.cut.ensures.cut).acted)
+    gone_one (view_of c.args.end.now) (view_of c.loop-turn.end) (view_of c.cut.new.self) Cut c.loop-turn.invariant.acted
+    (c.cut.ensures.cut ∙ ap (λ (v : EndView). with_event v Cut) same)
 
-pub returns-in_err-talk_once-clause-acted : goal.returns-in_err-talk_once-clause-acted
-returns-in_err-talk_once-clause-acted g c =
+pub returns-in_err-talk_once-clause-gone_on : goal.returns-in_err-talk_once-clause-gone_on
+returns-in_err-talk_once-clause-gone_on g c =
     let same : view_of c.is_last.new.end ≡ view_of c.loop-turn.end = ap known_by c.is_last.ensures.same in
-    acted_more (view_of c.args.end.now) (view_of c.loop-turn.end) (view_of c.talk_once.new.end) c.loop-turn.invariant.acted
-    (subst (λ (v : EndView). HasActed v (view_of c.talk_once.new.end)) same c.talk_once.ensures.acted)
+    gone_on (view_of c.args.end.now) (view_of c.talk_once.new.end) (acted_more (view_of c.args.end.now) (view_of c.loop-turn.end) (view_of c.talk_once.new.end) c.loop-turn.invariant.acted
+    (subst (λ (v : EndView). HasActed v (view_of c.talk_once.new.end)) same c.talk_once.ensures.acted))
 
-pub returns-then-not-branch-clause-acted : goal.returns-then-not-branch-clause-acted
-returns-then-not-branch-clause-acted g c =
+pub returns-then-not-branch-clause-gone_on : goal.returns-then-not-branch-clause-gone_on
+returns-then-not-branch-clause-gone_on g c =
     let same : view_of c.is_last.new.end ≡ view_of c.loop-turn.end = ap known_by c.is_last.ensures.same in
-    acted_more (view_of c.args.end.now) (view_of c.loop-turn.end) (view_of c.talk_once.new.end) c.loop-turn.invariant.acted
-    (subst (λ (v : EndView). HasActed v (view_of c.talk_once.new.end)) same c.talk_once.ensures.acted)
+    gone_on (view_of c.args.end.now) (view_of c.talk_once.new.end) (acted_more (view_of c.args.end.now) (view_of c.loop-turn.end) (view_of c.talk_once.new.end) c.loop-turn.invariant.acted
+    (subst (λ (v : EndView). HasActed v (view_of c.talk_once.new.end)) same c.talk_once.ensures.acted))
+
+pub returns-then-not-branch-clause-told : goal.returns-then-not-branch-clause-told
+returns-then-not-branch-clause-told g c = λ other old.
+    let same : view_of c.is_last.new.end ≡ view_of c.loop-turn.end = ap known_by c.is_last.ensures.same in
+    (acted_more (view_of c.args.end.now) (view_of c.loop-turn.end) (view_of c.talk_once.new.end) c.loop-turn.invariant.acted
+    (subst (λ (v : EndView). HasActed v (view_of c.talk_once.new.end)) same c.talk_once.ensures.acted)).told old
 
 pub returns-then-not-branch-clause-goes_on : goal.returns-then-not-branch-clause-goes_on
 returns-then-not-branch-clause-goes_on g c = λ kind channel pages past h.

@@ -1,5 +1,4 @@
 use Rattle.std.proofs.Common.{Bool, false, true, not, subst, arith, refl, sym, ◌∙◌}
-use Rattle.smbd_base.specs.declared.end_id.EndId.TheVariants as side
 use Rattle.link_ends.specs.Ends.{view_of}
 use Rattle.end_shares.specs.Servers.{ServerGoesOn}
 use Rattle.end_shares.proofs.Turning.{acted_none, acted_more}

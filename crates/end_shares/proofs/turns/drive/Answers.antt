@@ -1,8 +1,8 @@
-use Rattle.std.proofs.Common.{◌≡◌, ℕ, true, false, sym, ap, ◌∙◌, subst}
+use Rattle.std.proofs.Common.{◌≡◌, ℕ, true, false, sym, ◌∙◌, subst}
 use Rattle.sim_adapter.specs.declared.view.EndView.{EndView}
 use Rattle.link_ends.specs.Ends.{view_of, next_of, is_emit}
 use Rattle.copy_ends.specs.Cuts.{AreLeft, frames_sent}
-use Rattle.end_shares.proofs.Turning.{drove, drove_sent, drove_one, drove_none, sent_is_emit, turned_none}
+use Rattle.end_shares.proofs.Turning.{drove, drove_sent, drove_one, drove_none, sent_is_emit}
 use Rattle.end_shares.proofs.turns.drive.Goals as goal
 
 pub count_off-requires : goal.count_off-requires
