@@ -9,5 +9,6 @@ pub mod Meeting
 pub mod Opened
 pub mod Parts
 pub mod Passing
+pub mod Pasts
 pub mod StepAnswers
 pub mod Sweeping

@@ -1,10 +1,10 @@
 -- Passes of a pool that meet.
 use Rattle.std.specs.Prelude.{◌≡◌, ℕ, ◌<◌, List, length, map, slice_index_or, All}
 use Rattle.smbd_base.specs.declared.page_event.PageEvent.{PageEvent}
-use Rattle.smbd_base.specs.PagesFit.{PagesFit}
+use Rattle.smbd_base.specs.PagesFit.{PagesFit, events_by}
 use Rattle.shared_pages.specs.declared.view.Opening.{Opening}
 use Rattle.shared_pages.specs.declared.view.Sight.{Sight}
-use Rattle.shared_pages.specs.Rule.{Log, Knows}
+use Rattle.shared_pages.specs.Rule.{Log, IsPast, Knows}
 
 -- they are all the passes of the pool, in the order of their numbers
 pub record AreAll (pool : Opening) (sights : List Sight) : Type 0 where
@@ -23,3 +23,24 @@ lists_made sights = map (λ (v : Sight). v.made) sights
 abbrev pub MeetingMakesFit : Type 0
 MeetingMakesFit = (pool : Opening) (seen : List Log) (sights : List Sight) → AreAll pool sights → All (λ (v : Sight). Knows pool v) sights
     → HaveSeen seen sights → PagesFit pool.first (lists_made sights)
+
+-- each of them has seen this past of all pages
+abbrev pub HaveSeenPast : Log → List Sight → Type 0
+HaveSeenPast past sights = All (λ (v : Sight). v.past ≡ past) sights
+
+-- the events that a pass made are its entries of this past, in their order
+abbrev pub IsListOf : Log → Sight → Type 0
+IsListOf past v = v.made ≡ events_by v.number past
+
+-- One past of all pages that they have all seen. It is a run of the pool, and by its passes; and what each of them made is its
+-- entries there, in their order.
+pub record HaveOnePast (pool : Opening) (sights : List Sight) : Type 0 where
+  pub past : Log
+  pub whole : IsPast pool past
+  pub seen : HaveSeenPast past sights
+  pub lists : All (IsListOf past) sights
+
+-- where passes of a pool have seen the same past, it is the one past of all pages
+abbrev pub MeetingMakesOnePast : Type 0
+MeetingMakesOnePast = (pool : Opening) (past : Log) (sights : List Sight) → All (λ (v : Sight). Knows pool v) sights → HaveSeenPast past sights
+    → HaveOnePast pool sights
