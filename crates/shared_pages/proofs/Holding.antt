@@ -56,7 +56,7 @@ marked (Has q) words seen logs p low h = (dite (ℕ_discrete q p) (λ e. subst (
 others_marked : (seats : ℕ) (words : List ℕ) (logs : List Log) (past : Log) (p : ℕ) (u : View) → p < length words → ViewFits seats words logs past u → ViewFits seats (set words p mark) logs past u
 others_marked seats words logs past p Spent low h = tt
 others_marked seats words logs past p (Rest k lists) low h = h
-others_marked seats words logs past p (One v) low h = record { among = h.among; made = h.made; past = h.past; seen = h.seen; other = h.other; own = h.own; held = marked v.hold words v.seen logs p low h.held }
+others_marked seats words logs past p (One v) low h = record { among = h.among; made = h.made; pasts = h.pasts; seen = h.seen; other = h.other; own = h.own; held = marked v.hold words v.seen logs p low h.held }
 others_marked seats words logs past p (Copy c older) low h = h
 
 -- the page of a hold
@@ -107,7 +107,7 @@ resighted pool s r id v w at fits number hold = reviewed pool s r (set s.views i
 unchanged : (pool : Opening) (s : State Slot View) (id p : ℕ) (v : Sight) → Kept pool s → get_elem? s.views id ≡ some (One v) → slice_index s.words p ≡ mark → Kept pool (stepped s p mark id [] (One (refused v)) keeps)
 unchanged pool s id p v r at is = subst (λ (z : List ℕ). Kept pool record { words = z; homes = s.homes; views = set s.views id (One (refused v)) })
     (sym (ap (λ (x : ℕ). set s.words p x) (sym is) ∙ set-get_or s.words p 0))
-    (let m = r.views id (One v) at in resighted pool s r id v (refused v) at (record { among = m.among; made = m.made; past = record { seen = m.past.seen; other = m.past.other; own = m.past.own; list = m.past.list }; seen = m.seen; other = m.other; own = m.own; held = m.held }) refl refl)
+    (let m = r.views id (One v) at in resighted pool s r id v (refused v) at (record { among = m.among; made = m.made; pasts = record { seen = m.pasts.seen; other = m.pasts.other; own = m.pasts.own; list = m.pasts.list }; seen = m.seen; other = m.other; own = m.own; held = m.held }) refl refl)
 
 module _ (pool : Opening) (s : State Slot View) (r : Kept pool s) (id p : ℕ) (v : Sight) (at : get_elem? s.views id ≡ some (One v)) (l : Log) (log : get_elem? r.logs p ≡ some l) where
   mine : SightFits pool.seats s.words r.logs r.past v
@@ -146,7 +146,7 @@ module _ (pool : Opening) (s : State Slot View) (r : Kept pool s) (id p : ℕ) (
         (λ (t : (j ≡ id) × (One (holding v p l r.past) ≡ u)). subst (ViewFits pool.seats (set s.words p mark) r.logs r.past) t.1 record {
           among = mine.among;
           made = mine.made;
-          past = past-holds r.past v p l mine.past;
+          pasts = past-holds r.past v p l mine.pasts;
           seen = sees v.seen r.logs p l mine.seen log;
           other = mine.other;
           own = sees_own v.number v.seen r.logs p l mine.own log;
@@ -192,7 +192,7 @@ holds pool slots id p v low free s r wide at small = let x : ℕ = slice_index s
           bounded pool.seats l r.seats (r.made p l found.1) (λ n. r.few n p l found.1),
           set_here v.seen p l (low_seen pool s r id p v at l found.1),
           made-few v.number v.made r.logs p l (r.views id (One v) at).made found.1,
-          sees-after p v l r.past (r.parts p l found.1) (r.views id (One v) at).past,
+          sees-after p v l r.past (r.parts p l found.1) (r.views id (One v) at).pasts,
         )),
       ),
     ))
@@ -221,7 +221,7 @@ others_grow seats words logs past p x e l (Rest k lists) log off low h = (
 others_grow seats words logs past p x e l (One w) log off low h = record {
   among = h.among;
   made = makes_other w.number w.made logs p e l (off w refl).0 h.made log;
-  past = past-grows past w e (off w refl).0 h.past;
+  pasts = past-grows past w e (off w refl).0 h.pasts;
   seen = grows w.seen logs p e l h.seen log;
   other = grows w.other logs p e l h.other log;
   own = grows_other w.number w.seen logs p e l (off w refl).0 h.own log;
@@ -274,7 +274,7 @@ module _ (pool : Opening) (s : State Slot View) (r : Kept pool s) (id p : ℕ) (
         (λ (t : (j ≡ id) × (One w ≡ u)). subst (ViewFits pool.seats (set s.words p (length l + 1)) (set r.logs p (e ∷ l)) (e ∷ r.past)) t.1 record {
           among = (mine pool s r id p v at l log).among;
           made = makes_new v.number v.made r.logs p e l refl here (mine pool s r id p v at l log).made log;
-          past = past-gives r.past v p event l (mine pool s r id p v at l log).past;
+          pasts = past-gives r.past v p event l (mine pool s r id p v at l log).pasts;
           seen = sees_new v.seen r.logs p (e ∷ l) (mine pool s r id p v at l log).seen;
           other = grows v.other r.logs p e l (mine pool s r id p v at l log).other log;
           own = sees_new_own v.number v.seen r.logs p (e ∷ l) (mine pool s r id p v at l log).own;
@@ -313,7 +313,7 @@ gives_back pool slots id p x v l event content turn seen here may few is whole s
       subst (λ (z : ℕ × PageState). Kept pool record { words = set s.words p z.0; homes = set s.homes p (some (Some z.1)); views = set s.views id (One (gave v p event l r.past)) }) (λ i. (sym is i, sym whole i))
           (gives_page pool s r id p v at l log turn event here may few),
       (λ m there. let same = some-injective l m (sym seen ∙ there) in
-      (r.past, (λ i. (One (gave v p event (same i) r.past), [])), sees-after p v m r.past (r.parts p l log ∙ same) (r.views id (One v) at).past)),
+      (r.past, (λ i. (One (gave v p event (same i) r.past), [])), sees-after p v m r.past (r.parts p l log ∙ same) (r.views id (One v) at).pasts)),
     )
 
 held_off : (h : Hold) (words : List ℕ) (seen logs : List Log) (p x : ℕ) → (h ≡ Has p → ⊥) → IsHeld h words seen logs → IsHeld h (set words p x) seen logs
@@ -323,7 +323,7 @@ held_off (Has q) words seen logs p x ne h = let off : q ≢ p = λ is. ne (ap Ha
 others_stay : (seats : ℕ) (words : List ℕ) (logs : List Log) (past : Log) (p x : ℕ) (u : View) → ((w : Sight) → One w ≡ u → w.hold ≡ Has p → ⊥) → ViewFits seats words logs past u → ViewFits seats (set words p x) logs past u
 others_stay seats words logs past p x Spent off h = tt
 others_stay seats words logs past p x (Rest k lists) off h = h
-others_stay seats words logs past p x (One w) off h = record { among = h.among; made = h.made; past = h.past; seen = h.seen; other = h.other; own = h.own; held = held_off w.hold words w.seen logs p x (off w refl) h.held }
+others_stay seats words logs past p x (One w) off h = record { among = h.among; made = h.made; pasts = h.pasts; seen = h.seen; other = h.other; own = h.own; held = held_off w.hold words w.seen logs p x (off w refl) h.held }
 others_stay seats words logs past p x (Copy c older) off h = h
 
 module _ (pool : Opening) (s : State Slot View) (r : Kept pool s) (id p : ℕ) (v : Sight) (at : get_elem? s.views id ≡ some (One v)) (l : Log) (log : get_elem? r.logs p ≡ some l) (turn : v.hold ≡ Has p) where
@@ -350,7 +350,7 @@ module _ (pool : Opening) (s : State Slot View) (r : Kept pool s) (id p : ℕ) (
         (λ ne. let old = r.rests q m x (λ z. y (set_else s.words p q (length l) ne ∙ z)) in
         record { counted = set_else s.words p q (length l) ne ∙ old.counted; lies = set_else s.homes p q (some (Some (page_state pool.first l))) ne ∙ old.lies });
     views = λ j u x. ⊎_elim
-        (λ (t : (j ≡ id) × (One w ≡ u)). subst (ViewFits pool.seats (set s.words p (length l)) r.logs r.past) t.1 record { among = own.among; made = own.made; past = past-stays r.past v own.past; seen = own.seen; other = own.other; own = own.own; held = tt })
+        (λ (t : (j ≡ id) × (One w ≡ u)). subst (ViewFits pool.seats (set s.words p (length l)) r.logs r.past) t.1 record { among = own.among; made = own.made; pasts = past-stays r.past v own.pasts; seen = own.seen; other = own.other; own = own.own; held = tt })
         (λ (t : (j ≢ id) × (get_elem? s.views j ≡ some u)). others_stay pool.seats s.words r.logs r.past p (length l) u
         (λ a is h. t.0 (r.one_holder j id a v p (t.1 ∙ ap (λ (z : View). some z) (sym is)) at h turn))
         (r.views j u t.1))

@@ -18,7 +18,7 @@ ends-same older log e most = go e.0 e.1
 ends-refl : (l : Log) → Ends l l
 ends-refl l = ([], refl)
 
-ends-trans : (a b c : Log) → Ends a b → Ends b c → Ends a c
+pub ends-trans : (a b c : Log) → Ends a b → Ends b c → Ends a c
 ends-trans a b c x y = (y.0 ++ x.0, append_assoc y.0 x.0 a ∙ ap (λ (l : Log). y.0 ++ l) x.1 ∙ y.1)
 
 longer-by : (P : Log → Type 0) (a b : Log) → (length a ≤ length b → P b) → (length b < length a → P a) → P (longer a b)

@@ -97,6 +97,6 @@ knows pool s r v fits =
             ∙ ap events_in (seen_at v.number v.seen r.logs p log l.0 fits.own x l.1) ∙ sym (events_of v.number log);
         within = subst (λ (count : ℕ). AreWithin count v.made) (sym same) fits.made.within;
       };
-      past = older-past pool v.past r.past fits.past.seen r.whole;
-      list = fits.past.list;
+      past = older-past pool v.past r.past fits.pasts.seen r.whole;
+      list = fits.pasts.list;
     }

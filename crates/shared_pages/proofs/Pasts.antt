@@ -1,6 +1,7 @@
 -- The one past of all pages, and what a pass has seen of it.
 use Rattle.std.proofs.Common.{◌≡◌, ◌≢◌, ℕ, zero, suc, ◌+◌, ◌<◌, ◌≤◌, List, [], ◌∷◌, ◌++◌, length, replicate, slice_set, refl, sym, ap, ◌∙◌, subst, arith, ⊎_elim}
 use Rattle.std.proofs.lemmas.Bool.{cases_eq, cond-true, cond-false, eq-eqb, ne_eqb}
+use Rattle.std.proofs.lemmas.List.{append-nil}
 use Rattle.smbd_base.specs.declared.page_event.PageEvent.{PageEvent}
 use Rattle.smbd_base.specs.Pages.{Entry, PageState, IsPageStep, IsPoolRun, page_in, page_after, page_at, page_state, entries_on}
 use Rattle.smbd_base.specs.PagesFit.{AreMadeBy, events_by}
@@ -9,7 +10,8 @@ use Rattle.smbd_base.proofs.PassLists.{events_by-here, events_by-other}
 use Rattle.smbd_base.proofs.PoolLives.{entries_on-here, entries_on-other, length-run, state-of-run}
 use Rattle.shared_pages.specs.declared.view.Opening.{Opening}
 use Rattle.shared_pages.specs.declared.view.Sight.{Sight}
-use Rattle.shared_pages.specs.Rule.{Log, Ends, made_by, IsPast, PastFits, IsPastAfter, holding, gave, let_go}
+use Rattle.shared_pages.specs.Rule.{Log, Ends, made_by, IsPast, PastFits, IsPastAfter, Compare, longer, holding, gave, let_go, learned, new_sight}
+use Rattle.shared_pages.proofs.Logs.{one_longer}
 
 pub made_by-here : (n : ℕ) (e : Entry) (l : Log) → e.pass ≡ n → made_by n (e ∷ l) ≡ e ∷ made_by n l
 made_by-here n e l here = cond-true _ _ _ (eq-eqb e.pass n here)
@@ -103,3 +105,15 @@ past-gives past v p event l h =
 -- it gives it back as it was
 pub past-stays : (past : Log) (v : Sight) → PastFits past v → PastFits past (let_go v)
 past-stays past v h = record { seen = h.seen; other = h.other; own = h.own; list = h.list }
+
+-- it meets another pass
+pub past-meets : (past : Log) (v : Sight) → PastFits past v → PastFits past (learned v) × Compare v.past v.other_past
+past-meets past v h =
+    let f = one_longer v.number v.past v.other_past past h.seen h.other h.own in (
+      record { seen = f.0; other = h.other; own = f.1; list = h.list ∙ list-same v.number v.past (longer v.past v.other_past) (sym h.own ∙ f.1) },
+      f.2,
+    )
+
+-- it was just made
+pub past-begins : (past : Log) (n : ℕ) (lists : List Log) → made_by n past ≡ [] → PastFits past (new_sight n lists)
+past-begins past n lists none = record { seen = (past, append-nil past); other = (past, append-nil past); own = none; list = refl }

@@ -94,7 +94,7 @@ pub record SightFits (seats : ℕ) (words : List ℕ) (logs : List Log) (past : 
   pub held : IsHeld v.hold words v.seen logs
   pub among : v.number < seats
   pub made : IsMade v.number v.made logs
-  pub past : PastFits past v
+  pub pasts : PastFits past v
 
 abbrev pub ViewFits : ℕ → List ℕ → List Log → Log → View → Type 0
 ViewFits seats words logs past Spent = Unit {0}
