@@ -39,7 +39,7 @@ longer-right a b c = longer-by (λ (l : Log). Ends b l) a b
 longer-same : (a b : Log) → Ends b a → longer a b ≡ a
 longer-same a b e = longer-by (λ (l : Log). l ≡ a) a b (λ le. ends-same b a e le) (λ less. refl)
 
-longer-again : (a b : Log) → longer b (longer a b) ≡ longer a b
+pub longer-again : (a b : Log) → longer b (longer a b) ≡ longer a b
 longer-again a b = longer-by (λ (l : Log). longer b l ≡ l) a b
     (λ le. longer-by (λ (l : Log). l ≡ b) b b (λ le. refl) (λ less. refl))
     (λ less. longer-by (λ (l : Log). l ≡ a) b a (λ le. refl) (λ other. absurd (omega arith)))

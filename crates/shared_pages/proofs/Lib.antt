@@ -6,6 +6,7 @@ pub mod Learning
 pub mod Logs
 pub mod Making
 pub mod Meeting
+pub mod OnePast
 pub mod Opened
 pub mod Parts
 pub mod Passing
