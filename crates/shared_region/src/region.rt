@@ -5,8 +5,8 @@ ghost use Rattle.smbd_base.specs.declared.token.TheConstants.{PAGE_SIZE, LAST_GE
 ghost use Rattle.smbd_base.specs.declared.page_event.PageEvent.TheVariants as events;
 ghost use Rattle.shared_pages.specs.Answers.{fetch_answer, place_answer, unload_answer, places_had};
 ghost use Rattle.shared_pages.specs.Rule.{longest, AllCompare, Knows, refused};
-ghost use Rattle.shared_pages.specs.Calls.{AreNew, known_by, opening_of, IsOf, MadeAsMuch, MayMake, AccessTells};
-ghost use Rattle.shared_pages.specs.Meets.{AreAll, lists_made};
+ghost use Rattle.shared_pages.specs.Calls.{AreNew, known_by, opening_of, IsOf, MadeAsMuch, PastsMet, MayMake, AccessTells};
+ghost use Rattle.shared_pages.specs.Meets.{AreAll, HaveOnePast, lists_made};
 ghost use Rattle.shared_pages.specs.Sweeps.{HaveAllMet};
 ghost use Rattle.smbd_base.specs.PagesFit.{PagesFit};
 ghost use Rattle.shared_records.specs.Records.{IsInPage};
@@ -211,17 +211,20 @@ impl Region {
         ensures other { (known_by other.new).seen ≡ (known_by one.new).seen }
         ensures same { MadeAsMuch (known_by one.old) (known_by one.new) × MadeAsMuch (known_by other.old) (known_by other.new) }
         ensures compare { AllCompare (known_by one.old).seen (known_by other.old).seen }
+        ensures pasts { PastsMet (known_by one.old) (known_by other.old) (known_by one.new) (known_by other.new) }
         ensures knows { Knows (opening_of self.now.pages) (known_by one.new) × Knows (opening_of self.now.pages) (known_by other.new) }
     {
         self.pages.meet(one, other);
     }
 
     /// Tells each of these passes what any of them has seen. Where they are all passes of the region, the lists of the events
-    /// that they made fit together.
+    /// that they made fit together. All events of all pages have one past, which each of them has seen, and of which each made
+    /// its entries.
     pub fn meet_all(&self, passes: &mut [PagePass])
         requires { All (λ p. IsOf self.now.pages p) passes.old }
         ensures met { HaveAllMet self.now.pages passes.old passes.new }
         ensures fit { AreAll (opening_of self.now.pages) (map known_by passes.new) → PagesFit (opening_of self.now.pages).first (lists_made (map known_by passes.new)) }
+        ensures past { HaveOnePast (opening_of self.now.pages) (map known_by passes.new) }
     {
         shared_pages::meet_all(&self.pages, passes);
     }
