@@ -19,7 +19,7 @@ use Rattle.shared_pages.specs.declared.view.View.{View}
 use Rattle.shared_pages.specs.declared.view.View.TheVariants.{Spent, Rest, One, Copy}
 use Rattle.shared_pages.specs.Rule.{refused, Slot, Log, mark, most_events, made_by, IsPast, IsPastAfter, IsHeld, SightFits, ViewFits, Rests, Kept, holding, gave, let_go, held, given, kept}
 use Rattle.shared_pages.proofs.Making.{makes_new, makes_other, made-few}
-use Rattle.shared_pages.proofs.Pasts.{made_by-here, made_by-other, more-past, past-grows, past-gives, past-holds, past-stays, sees-after}
+use Rattle.shared_pages.proofs.Pasts.{IsWhole, made_by-other, more-past, past-grows, past-gives, past-holds, past-stays, sees-after}
 use Rattle.smbd_base.proofs.PoolLives.{entries_on-here, entries_on-other}
 use Rattle.shared_pages.proofs.Logs.{few-more, bounded, inside, there_is, same_length, end_at, seen_at, sees, sees_own, grows, grows_other, sees_new, sees_new_own}
 
@@ -107,7 +107,7 @@ resighted pool s r id v w at fits number hold = reviewed pool s r (set s.views i
 unchanged : (pool : Opening) (s : State Slot View) (id p : ℕ) (v : Sight) → Kept pool s → get_elem? s.views id ≡ some (One v) → slice_index s.words p ≡ mark → Kept pool (stepped s p mark id [] (One (refused v)) keeps)
 unchanged pool s id p v r at is = subst (λ (z : List ℕ). Kept pool record { words = z; homes = s.homes; views = set s.views id (One (refused v)) })
     (sym (ap (λ (x : ℕ). set s.words p x) (sym is) ∙ set-get_or s.words p 0))
-    (let m = r.views id (One v) at in resighted pool s r id v (refused v) at (record { among = m.among; made = m.made; pasts = record { seen = m.pasts.seen; other = m.pasts.other; own = m.pasts.own; list = m.pasts.list }; seen = m.seen; other = m.other; own = m.own; held = m.held }) refl refl)
+    (let m = r.views id (One v) at in resighted pool s r id v (refused v) at (record { among = m.among; made = m.made; pasts = record { parts = m.pasts.parts; other_parts = m.pasts.other_parts; seen = m.pasts.seen; other = m.pasts.other; own = m.pasts.own; list = m.pasts.list }; seen = m.seen; other = m.other; own = m.own; held = m.held }) refl refl)
 
 module _ (pool : Opening) (s : State Slot View) (r : Kept pool s) (id p : ℕ) (v : Sight) (at : get_elem? s.views id ≡ some (One v)) (l : Log) (log : get_elem? r.logs p ≡ some l) where
   mine : SightFits pool.seats s.words r.logs r.past v
@@ -146,7 +146,7 @@ module _ (pool : Opening) (s : State Slot View) (r : Kept pool s) (id p : ℕ) (
         (λ (t : (j ≡ id) × (One (holding v p l r.past) ≡ u)). subst (ViewFits pool.seats (set s.words p mark) r.logs r.past) t.1 record {
           among = mine.among;
           made = mine.made;
-          pasts = past-holds r.past v p l mine.pasts;
+          pasts = past-holds r.past v p l r.logs mine.pasts r.parts (sees v.seen r.logs p l mine.seen log);
           seen = sees v.seen r.logs p l mine.seen log;
           other = mine.other;
           own = sees_own v.number v.seen r.logs p l mine.own log;
@@ -217,6 +217,7 @@ others_grow seats words logs past p x e l (Rest k lists) log off low h = (
   (λ n more. let a = low k lists refl in grows_other n lists logs p e l (λ is. omega arith) (h.1 n more) log),
   (λ n more. let a = low k lists refl in makes_other n [] logs p e l (λ is. omega arith) (h.2 n more) log),
   (λ n more. let a = low k lists refl in made_by-other n e past (λ is. omega arith) ∙ h.3 n more),
+  h.4,
 )
 others_grow seats words logs past p x e l (One w) log off low h = record {
   among = h.among;
@@ -227,7 +228,7 @@ others_grow seats words logs past p x e l (One w) log off low h = record {
   own = grows_other w.number w.seen logs p e l (off w refl).0 h.own log;
   held = held_else w.hold words w.seen logs p x (e ∷ l) (off w refl).1 h.held;
 }
-others_grow seats words logs past p x e l (Copy c older) log off low h = (grows c logs p e l h.0 log, (e ∷ h.1.0, ap (λ (z : Log). e ∷ z) h.1.1))
+others_grow seats words logs past p x e l (Copy c older) log off low h = (grows c logs p e l h.0 log, (e ∷ h.1.0, ap (λ (z : Log). e ∷ z) h.1.1), h.2)
 
 module _ (pool : Opening) (s : State Slot View) (r : Kept pool s) (id p : ℕ) (v : Sight) (at : get_elem? s.views id ≡ some (One v)) (l : Log) (log : get_elem? r.logs p ≡ some l) (turn : v.hold ≡ Has p) where
   gives_page : (event : PageEvent) → page_in event ≡ p → IsPageStep event (page_state pool.first l) → length (made_by v.number l) < most_events
@@ -236,7 +237,13 @@ module _ (pool : Opening) (s : State Slot View) (r : Kept pool s) (id p : ℕ) (
         homes = set s.homes p (some (Some (page_state pool.first ((record { pass = v.number; event = event }) ∷ l))));
         views = set s.views id (One (gave v p event l r.past));
       }
-  gives_page event here may few = let e : Entry = record { pass = v.number; event = event } in let w : Sight = gave v p event l r.past in record {
+  gives_page event here may few = let e : Entry = record { pass = v.number; event = event } in let w : Sight = gave v p event l r.past in
+      let whole : IsWhole (e ∷ r.past) (set r.logs p (e ∷ l)) =
+    λ q m x. ⊎_elim
+        (λ (t : (q ≡ p) × (e ∷ l ≡ m)). ap (λ (z : ℕ). entries_on z (e ∷ r.past)) t.0 ∙ entries_on-here p e r.past here ∙ ap (λ (z : Log). e ∷ z) (r.parts p l log) ∙ t.1)
+        (λ (t : (q ≢ p) × (get_elem? r.logs q ≡ some m)). entries_on-other q e r.past (λ is. t.0 (sym is ∙ here)) ∙ r.parts q m t.1)
+        (at_set r.logs p q (e ∷ l) m x) in
+      record {
     logs = set r.logs p (e ∷ l);
     least = r.least;
     seats = r.seats;
@@ -245,10 +252,7 @@ module _ (pool : Opening) (s : State Slot View) (r : Kept pool s) (id p : ℕ) (
     all = length-set r.logs p (e ∷ l) ∙ r.all;
     past = e ∷ r.past;
     whole = more-past pool e p l r.past here (let a = inside r.logs p l log in let b = r.all in omega arith) (mine pool s r id p v at l log).among (r.parts p l log) may r.whole;
-    parts = λ q m x. ⊎_elim
-        (λ (t : (q ≡ p) × (e ∷ l ≡ m)). ap (λ (z : ℕ). entries_on z (e ∷ r.past)) t.0 ∙ entries_on-here p e r.past here ∙ ap (λ (z : Log). e ∷ z) (r.parts p l log) ∙ t.1)
-        (λ (t : (q ≢ p) × (get_elem? r.logs q ≡ some m)). entries_on-other q e r.past (λ is. t.0 (sym is ∙ here)) ∙ r.parts q m t.1)
-        (at_set r.logs p q (e ∷ l) m x);
+    parts = whole;
     lawful = λ q m x. ⊎_elim
         (λ (t : (q ≡ p) × (e ∷ l ≡ m)). subst (λ (z : ℕ × Log). IsPageLife pool.first z.0 z.1) (λ i. (sym t.0 i, t.1 i)) (here, may, r.lawful p l log))
         (λ (t : (q ≢ p) × (get_elem? r.logs q ≡ some m)). r.lawful q m t.1)
@@ -274,7 +278,7 @@ module _ (pool : Opening) (s : State Slot View) (r : Kept pool s) (id p : ℕ) (
         (λ (t : (j ≡ id) × (One w ≡ u)). subst (ViewFits pool.seats (set s.words p (length l + 1)) (set r.logs p (e ∷ l)) (e ∷ r.past)) t.1 record {
           among = (mine pool s r id p v at l log).among;
           made = makes_new v.number v.made r.logs p e l refl here (mine pool s r id p v at l log).made log;
-          pasts = past-gives r.past v p event l (mine pool s r id p v at l log).pasts;
+          pasts = past-gives r.past v p event l (set r.logs p (e ∷ l)) (mine pool s r id p v at l log).pasts whole (sees_new v.seen r.logs p (e ∷ l) (mine pool s r id p v at l log).seen);
           seen = sees_new v.seen r.logs p (e ∷ l) (mine pool s r id p v at l log).seen;
           other = grows v.other r.logs p e l (mine pool s r id p v at l log).other log;
           own = sees_new_own v.number v.seen r.logs p (e ∷ l) (mine pool s r id p v at l log).own;

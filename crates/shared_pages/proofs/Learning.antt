@@ -21,17 +21,17 @@ ends-refl l = ([], refl)
 pub ends-trans : (a b c : Log) → Ends a b → Ends b c → Ends a c
 ends-trans a b c x y = (y.0 ++ x.0, append_assoc y.0 x.0 a ∙ ap (λ (l : Log). y.0 ++ l) x.1 ∙ y.1)
 
-longer-by : (P : Log → Type 0) (a b : Log) → (length a ≤ length b → P b) → (length b < length a → P a) → P (longer a b)
+pub longer-by : (P : Log → Type 0) (a b : Log) → (length a ≤ length b → P b) → (length b < length a → P a) → P (longer a b)
 longer-by P a b short long = dite (dec_le (length a) (length b))
     (λ le. subst (λ (t : Bool). P (if t then b else a)) (sym (le-leb (length a) (length b) le)) (short le))
     (λ nle. let less : length b < length a = omega arith in subst (λ (t : Bool). P (if t then b else a)) (sym (lt-leb (length a) (length b) less)) (long less))
 
-longer-left : (a b : Log) → Ends a b ⊎ Ends b a → Ends a (longer a b)
+pub longer-left : (a b : Log) → Ends a b ⊎ Ends b a → Ends a (longer a b)
 longer-left a b c = longer-by (λ (l : Log). Ends a l) a b
     (λ le. ⊎_elim (λ (e : Ends a b). e) (λ (e : Ends b a). subst (λ (l : Log). Ends l b) (ends-same b a e le) (ends-refl b)) c)
     (λ less. ends-refl a)
 
-longer-right : (a b : Log) → Ends a b ⊎ Ends b a → Ends b (longer a b)
+pub longer-right : (a b : Log) → Ends a b ⊎ Ends b a → Ends b (longer a b)
 longer-right a b c = longer-by (λ (l : Log). Ends b l) a b
     (λ le. ends-refl b)
     (λ less. ⊎_elim (λ (e : Ends a b). let le = ends-short a b e in absurd (omega arith)) (λ (e : Ends b a). e) c)

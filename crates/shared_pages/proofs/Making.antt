@@ -99,4 +99,5 @@ knows pool s r v fits =
       };
       past = older-past pool v.past r.past fits.pasts.seen r.whole;
       list = fits.pasts.list;
+      parts = fits.pasts.parts;
     }

@@ -20,7 +20,7 @@ use Rattle.shared_pages.proofs.Holding.{reviewed, resighted, one_is, no_hold}
 pub copies : (pool : Opening) (id : ℕ) (v : Sight) → Splits (Kept pool) id (One v) (One v) (Copy v.seen v.past)
 copies pool id v s r at = subst (λ (l : List View). Kept pool record { words = s.words; homes = s.homes; views = l ++ Copy v.seen v.past ∷ [] }) (sym (set_again s.views id (One v) at))
     (reviewed pool s r (s.views ++ Copy v.seen v.past ∷ [])
-    (λ j u x. ⊎_elim (r.views j u) (λ (e : Copy v.seen v.past ≡ u). subst (ViewFits pool.seats s.words r.logs r.past) e ((r.views id (One v) at).seen, (r.views id (One v) at).pasts.seen)) (at_snoc s.views (Copy v.seen v.past) u j x))
+    (λ j u x. ⊎_elim (r.views j u) (λ (e : Copy v.seen v.past ≡ u). subst (ViewFits pool.seats s.words r.logs r.past) e ((r.views id (One v) at).seen, (r.views id (One v) at).pasts.seen, (r.views id (One v) at).pasts.parts)) (at_snoc s.views (Copy v.seen v.past) u j x))
     (λ j a x. ⊎_elim (λ (y : get_elem? s.views j ≡ some (One a)). (a, y, refl, refl)) (λ (e : Copy v.seen v.past ≡ One a). absurd cc) (at_snoc s.views (Copy v.seen v.past) (One a) j x))
     (λ j k lists x. ⊎_elim (λ (y : get_elem? s.views j ≡ some (Rest k lists)). y) (λ (e : Copy v.seen v.past ≡ Rest k lists). absurd cc) (at_snoc s.views (Copy v.seen v.past) (Rest k lists) j x)))
 
@@ -33,7 +33,7 @@ spends pool s r other = reviewed pool s r (set s.views other Spent)
 pub joins : (pool : Opening) (id other : ℕ) (v : Sight) (c : List Log) (past : Log) → Joins (Kept pool) id (One v) other (Copy c past) (One (record v { other_past = past; other = c })) Spent
 joins pool id other v c past s r at ne there = let w : Sight = record v { other_past = past; other = c } in let mine = r.views id (One v) at in
     let here : get_elem? s.views other ≡ some (Copy c past) = sym (set_else s.views id other (One w) ne) ∙ there in
-    let r' = resighted pool s r id v w at (record { among = mine.among; made = mine.made; pasts = record { seen = mine.pasts.seen; other = (r.views other (Copy c past) here).1; own = mine.pasts.own; list = mine.pasts.list }; seen = mine.seen; other = (r.views other (Copy c past) here).0; own = mine.own; held = mine.held }) refl refl in
+    let r' = resighted pool s r id v w at (record { among = mine.among; made = mine.made; pasts = record { seen = mine.pasts.seen; other = (r.views other (Copy c past) here).1; own = mine.pasts.own; list = mine.pasts.list; parts = mine.pasts.parts; other_parts = (r.views other (Copy c past) here).2 }; seen = mine.seen; other = (r.views other (Copy c past) here).0; own = mine.own; held = mine.held }) refl refl in
     spends pool record { words = s.words; homes = s.homes; views = set s.views id (One w) } r' other
 
 -- a pass learns what the other has seen
@@ -123,9 +123,9 @@ module _ (pool : Opening) (id k : ℕ) (lists : List Log) (s : State Slot View) 
     few = r.few;
     rests = r.rests;
     views = λ j u x. ⊎_elim
-        (λ (t : (j ≡ length rights) × (One made ≡ u)). subst (ViewFits pool.seats s.words r.logs r.past) t.1 record { among = room; made = mine.2 k (le_refl k); pasts = past-begins r.past k lists (mine.3 k (le_refl k)); seen = mine.0; other = mine.0; own = mine.1 k (le_refl k); held = tt })
+        (λ (t : (j ≡ length rights) × (One made ≡ u)). subst (ViewFits pool.seats s.words r.logs r.past) t.1 record { among = room; made = mine.2 k (le_refl k); pasts = past-begins r.past k lists (mine.3 k (le_refl k)) mine.4; seen = mine.0; other = mine.0; own = mine.1 k (le_refl k); held = tt })
         (λ (t : get_elem? rights j ≡ some u). ⊎_elim
-        (λ (w : (j ≡ id) × (Rest (k + 1) lists ≡ u)). subst (ViewFits pool.seats s.words r.logs r.past) w.1 (mine.0, (λ n more. mine.1 n (omega arith)), (λ n more. mine.2 n (omega arith)), (λ n more. mine.3 n (omega arith))))
+        (λ (w : (j ≡ id) × (Rest (k + 1) lists ≡ u)). subst (ViewFits pool.seats s.words r.logs r.past) w.1 (mine.0, (λ n more. mine.1 n (omega arith)), (λ n more. mine.2 n (omega arith)), (λ n more. mine.3 n (omega arith)), mine.4))
         (λ (w : (j ≢ id) × (get_elem? s.views j ≡ some u)). r.views j u w.1)
         (at_set s.views id j (Rest (k + 1) lists) u t))
         (last_or rights (One made) u j x);

@@ -10,7 +10,7 @@ use Rattle.smbd_base.specs.PagesFit.{events_by}
 use Rattle.shared_pages.specs.declared.view.Opening.{Opening}
 use Rattle.shared_pages.specs.declared.view.View.{View}
 use Rattle.shared_pages.specs.declared.view.View.TheVariants.{Rest}
-use Rattle.shared_pages.specs.Rule.{Slot, Log, AllEnd, AllSeen, ViewFits, Kept}
+use Rattle.shared_pages.specs.Rule.{Slot, Log, Ends, AllEnd, AllSeen, ViewFits, Kept}
 use Rattle.shared_pages.proofs.Logs.{inside}
 use Rattle.shared_pages.proofs.Pasts.{no-past}
 
@@ -65,6 +65,7 @@ opens_well pool least seats = let n = pool.pages in record {
     (λ k _. none_made k n),
     (λ k _. record { parts = λ p l x. ap (events_by k) (of_replicate n p [] l x); within = tt }),
     (λ k _. refl),
+    (λ p l x. subst (λ (z : Log). Ends z []) (of_replicate n p [] l x) ([], refl)),
   );
   apart = λ i j a b x y e. absurd (let h = (only_view _ _ i x).1 in cc);
   one_holder = λ i j a b p x y f g. absurd (let h = (only_view _ _ i x).1 in cc);

@@ -79,13 +79,19 @@ abbrev pub IsHeld : Hold → List ℕ → List Log → List Log → Type 0
 IsHeld Free words seen logs = Unit {0}
 IsHeld (Has p) words seen logs = (get_elem? words p ≡ some mark) × (get_elem? seen p ≡ get_elem? logs p)
 
+-- of each page, what was seen is an older part of the page's entries in this past of all pages
+abbrev pub AreParts : Log → List Log → Type 0
+AreParts past lists = (p : ℕ) (l : Log) → get_elem? lists p ≡ some l → Ends l (entries_on p past)
+
 -- What a pass has seen of the past of all pages is an older part of it, and has all that the pass made; the events that it made are
--- its entries there, in their order.
+-- its entries there, in their order. What it has seen of each page is in it.
 pub record PastFits (past : Log) (v : Sight) : Type 0 where
   pub seen : Ends v.past past
   pub other : Ends v.other_past past
   pub own : made_by v.number past ≡ made_by v.number v.past
   pub list : v.made ≡ events_by v.number v.past
+  pub parts : AreParts v.past v.seen
+  pub other_parts : AreParts v.other_past v.other
 
 pub record SightFits (seats : ℕ) (words : List ℕ) (logs : List Log) (past : Log) (v : Sight) : Type 0 where
   pub seen : AllEnd v.seen logs
@@ -99,9 +105,9 @@ pub record SightFits (seats : ℕ) (words : List ℕ) (logs : List Log) (past : 
 abbrev pub ViewFits : ℕ → List ℕ → List Log → Log → View → Type 0
 ViewFits seats words logs past Spent = Unit {0}
 ViewFits seats words logs past (Rest k lists) =
-    AllEnd lists logs × ((n : ℕ) → k ≤ n → AllSeen n lists logs) × ((n : ℕ) → k ≤ n → IsMade n [] logs) × ((n : ℕ) → k ≤ n → made_by n past ≡ [])
+    AllEnd lists logs × ((n : ℕ) → k ≤ n → AllSeen n lists logs) × ((n : ℕ) → k ≤ n → IsMade n [] logs) × ((n : ℕ) → k ≤ n → made_by n past ≡ []) × AreParts [] lists
 ViewFits seats words logs past (One v) = SightFits seats words logs past v
-ViewFits seats words logs past (Copy c older) = AllEnd c logs × Ends older past
+ViewFits seats words logs past (Copy c older) = AllEnd c logs × Ends older past × AreParts older c
 
 pub record Rests (words : List ℕ) (homes : List (maybe.Option Slot)) (first p : ℕ) (l : Log) : Type 0 where
   pub counted : get_elem? words p ≡ some (length l)
@@ -223,8 +229,8 @@ abbrev pub learned : Sight → Sight
 learned v = record v { past = longer v.past v.other_past; seen = longest v.seen v.other }
 
 -- What a pass knows of its pool: of each page a lawful life, whose entries its passes made. Its own events are, page by page,
--- its entries of these lives. The past of all pages that it has seen is a run of the pool, in which its own events are its
--- entries, in their order.
+-- its entries of these lives. The past of all pages that it has seen is a run of the pool, which has these lives, and in which its
+-- own events are its entries, in their order.
 pub record Knows (pool : Opening) (v : Sight) : Type 0 where
   pub least : 1 ≤ pool.first
   pub pages : length v.seen ≡ pool.pages
@@ -233,6 +239,7 @@ pub record Knows (pool : Opening) (v : Sight) : Type 0 where
   pub own : IsMade v.number v.made v.seen
   pub past : IsPast pool v.past
   pub list : v.made ≡ events_by v.number v.past
+  pub parts : AreParts v.past v.seen
 
 -- of two pasts one is an older part of the other
 abbrev pub Compare : Log → Log → Type 0
