@@ -124,3 +124,7 @@ pub record AccessTells (first page : ℕ) (event : PageState → PageEvent) (ans
   pub done : result ≡ access.Done → IsPageStep (event (page_state first log)) (page_state first log)
       × (new ≡ with_event old page (event (page_state first log)) log)
   pub refused : result ≢ access.Done → new ≡ with_log old page log
+
+-- the pass made this event, and no other
+abbrev pub Makes : PageEvent → Sight → Sight → Type 0
+Makes event old new = new.made ≡ event ∷ old.made
