@@ -17,7 +17,7 @@ use Rattle.shared_pages.specs.declared.view.Hold.TheVariants.{Free, Has}
 use Rattle.shared_pages.specs.declared.view.Sight.{Sight}
 use Rattle.shared_pages.specs.declared.view.View.{View}
 use Rattle.shared_pages.specs.declared.view.View.TheVariants.{Spent, Rest, One, Copy}
-use Rattle.shared_pages.specs.Rule.{refused, Slot, Log, mark, most_events, made_by, IsPast, IsPastAfter, IsHeld, SightFits, ViewFits, Rests, Kept, holding, gave, let_go, held, given, kept}
+use Rattle.shared_pages.specs.Rule.{refused, Slot, Log, mark, most_events, made_by, IsHeld, SightFits, ViewFits, Rests, Kept, holding, gave, let_go, held, given, kept}
 use Rattle.shared_pages.proofs.Making.{makes_new, makes_other, made-few}
 use Rattle.shared_pages.proofs.Pasts.{IsWhole, made_by-other, more-past, past-grows, past-gives, past-holds, past-stays, sees-after}
 use Rattle.smbd_base.proofs.PoolLives.{entries_on-here, entries_on-other}
@@ -239,68 +239,68 @@ module _ (pool : Opening) (s : State Slot View) (r : Kept pool s) (id p : ℕ) (
       }
   gives_page event here may few = let e : Entry = record { pass = v.number; event = event } in let w : Sight = gave v p event l r.past in
       let whole : IsWhole (e ∷ r.past) (set r.logs p (e ∷ l)) =
-    λ q m x. ⊎_elim
-        (λ (t : (q ≡ p) × (e ∷ l ≡ m)). ap (λ (z : ℕ). entries_on z (e ∷ r.past)) t.0 ∙ entries_on-here p e r.past here ∙ ap (λ (z : Log). e ∷ z) (r.parts p l log) ∙ t.1)
-        (λ (t : (q ≢ p) × (get_elem? r.logs q ≡ some m)). entries_on-other q e r.past (λ is. t.0 (sym is ∙ here)) ∙ r.parts q m t.1)
-        (at_set r.logs p q (e ∷ l) m x) in
+      λ q m x. ⊎_elim
+      (λ (t : (q ≡ p) × (e ∷ l ≡ m)). ap (λ (z : ℕ). entries_on z (e ∷ r.past)) t.0 ∙ entries_on-here p e r.past here ∙ ap (λ (z : Log). e ∷ z) (r.parts p l log) ∙ t.1)
+      (λ (t : (q ≢ p) × (get_elem? r.logs q ≡ some m)). entries_on-other q e r.past (λ is. t.0 (sym is ∙ here)) ∙ r.parts q m t.1)
+      (at_set r.logs p q (e ∷ l) m x) in
       record {
-    logs = set r.logs p (e ∷ l);
-    least = r.least;
-    seats = r.seats;
-    words = length-set s.words p (length l + 1) ∙ r.words;
-    homes = length-set s.homes p (some (Some (page_state pool.first (e ∷ l)))) ∙ r.homes;
-    all = length-set r.logs p (e ∷ l) ∙ r.all;
-    past = e ∷ r.past;
-    whole = more-past pool e p l r.past here (let a = inside r.logs p l log in let b = r.all in omega arith) (mine pool s r id p v at l log).among (r.parts p l log) may r.whole;
-    parts = whole;
-    lawful = λ q m x. ⊎_elim
-        (λ (t : (q ≡ p) × (e ∷ l ≡ m)). subst (λ (z : ℕ × Log). IsPageLife pool.first z.0 z.1) (λ i. (sym t.0 i, t.1 i)) (here, may, r.lawful p l log))
-        (λ (t : (q ≢ p) × (get_elem? r.logs q ≡ some m)). r.lawful q m t.1)
-        (at_set r.logs p q (e ∷ l) m x);
-    made = λ q m x. ⊎_elim
-        (λ (t : (q ≡ p) × (e ∷ l ≡ m)). subst (AreMadeBy pool.seats) t.1 ((mine pool s r id p v at l log).among, r.made p l log))
-        (λ (t : (q ≢ p) × (get_elem? r.logs q ≡ some m)). r.made q m t.1)
-        (at_set r.logs p q (e ∷ l) m x);
-    few = λ n q m x. ⊎_elim
-        (λ (t : (q ≡ p) × (e ∷ l ≡ m)). subst (λ (z : Log). length (made_by n z) ≤ most_events) t.1
-        (few-more n e l few (r.few n p l log)))
-        (λ (t : (q ≢ p) × (get_elem? r.logs q ≡ some m)). r.few n q m t.1)
-        (at_set r.logs p q (e ∷ l) m x);
-    rests = λ q m x y. ⊎_elim
-        (λ (t : (q ≡ p) × (e ∷ l ≡ m)). subst (λ (z : ℕ × Log). Rests (set s.words p (length l + 1)) (set s.homes p (some (Some (page_state pool.first (e ∷ l))))) pool.first z.0 z.1) (λ i. (sym t.0 i, t.1 i)) record {
-          counted = set_here s.words p (length l + 1) (low pool s r id p v at l log) ∙ ap (λ (z : ℕ). some z) (omega arith);
-          lies = set_here s.homes p (some (Some (page_state pool.first (e ∷ l)))) (low_home pool s r id p v at l log);
-        })
-        (λ (t : (q ≢ p) × (get_elem? r.logs q ≡ some m)). let old = r.rests q m t.1 (λ z. y (set_else s.words p q (length l + 1) t.0 ∙ z)) in
-        record { counted = set_else s.words p q (length l + 1) t.0 ∙ old.counted; lies = set_else s.homes p q (some (Some (page_state pool.first (e ∷ l)))) t.0 ∙ old.lies })
-        (at_set r.logs p q (e ∷ l) m x);
-    views = λ j u x. ⊎_elim
-        (λ (t : (j ≡ id) × (One w ≡ u)). subst (ViewFits pool.seats (set s.words p (length l + 1)) (set r.logs p (e ∷ l)) (e ∷ r.past)) t.1 record {
-          among = (mine pool s r id p v at l log).among;
-          made = makes_new v.number v.made r.logs p e l refl here (mine pool s r id p v at l log).made log;
-          pasts = past-gives r.past v p event l (set r.logs p (e ∷ l)) (mine pool s r id p v at l log).pasts whole (sees_new v.seen r.logs p (e ∷ l) (mine pool s r id p v at l log).seen);
-          seen = sees_new v.seen r.logs p (e ∷ l) (mine pool s r id p v at l log).seen;
-          other = grows v.other r.logs p e l (mine pool s r id p v at l log).other log;
-          own = sees_new_own v.number v.seen r.logs p (e ∷ l) (mine pool s r id p v at l log).own;
-          held = tt;
-        })
-        (λ (t : (j ≢ id) × (get_elem? s.views j ≡ some u)). others_grow pool.seats s.words r.logs r.past p (length l + 1) e l u log
-        (λ a is. let here : get_elem? s.views j ≡ some (One a) = t.1 ∙ ap (λ (z : View). some z) (sym is) in
-        ((λ same. t.0 (r.apart j id a v here at (sym same))), (λ h. t.0 (r.one_holder j id a v p here at h turn))))
-        (λ k lists is. let low = r.below id j k v lists at (t.1 ∙ ap (λ (z : View). some z) (sym is)) in omega arith)
-        (r.views j u t.1))
-        (at_set s.views id j (One w) u x);
-    apart = numbers_apart pool s r id v w at refl;
-    below = all_below pool s r id v w at refl;
-    one_rest = only_rest pool s r id w;
-    one_holder = λ i j a b q x y f g. ⊎_elim
-        (λ (t : (i ≡ id) × (One w ≡ One a)). absurd (no_hold q (ap (λ (z : Sight). z.hold) (one_is w a t.1) ∙ f)))
-        (λ (t : (i ≢ id) × (get_elem? s.views i ≡ some (One a))). ⊎_elim
-        (λ (u : (j ≡ id) × (One w ≡ One b)). absurd (no_hold q (ap (λ (z : Sight). z.hold) (one_is w b u.1) ∙ g)))
-        (λ (u : (j ≢ id) × (get_elem? s.views j ≡ some (One b))). r.one_holder i j a b q t.1 u.1 f g)
-        (at_set s.views id j (One w) (One b) y))
-        (at_set s.views id i (One w) (One a) x);
-  }
+        logs = set r.logs p (e ∷ l);
+        least = r.least;
+        seats = r.seats;
+        words = length-set s.words p (length l + 1) ∙ r.words;
+        homes = length-set s.homes p (some (Some (page_state pool.first (e ∷ l)))) ∙ r.homes;
+        all = length-set r.logs p (e ∷ l) ∙ r.all;
+        past = e ∷ r.past;
+        whole = more-past pool e p l r.past here (let a = inside r.logs p l log in let b = r.all in omega arith) (mine pool s r id p v at l log).among (r.parts p l log) may r.whole;
+        parts = whole;
+        lawful = λ q m x. ⊎_elim
+            (λ (t : (q ≡ p) × (e ∷ l ≡ m)). subst (λ (z : ℕ × Log). IsPageLife pool.first z.0 z.1) (λ i. (sym t.0 i, t.1 i)) (here, may, r.lawful p l log))
+            (λ (t : (q ≢ p) × (get_elem? r.logs q ≡ some m)). r.lawful q m t.1)
+            (at_set r.logs p q (e ∷ l) m x);
+        made = λ q m x. ⊎_elim
+            (λ (t : (q ≡ p) × (e ∷ l ≡ m)). subst (AreMadeBy pool.seats) t.1 ((mine pool s r id p v at l log).among, r.made p l log))
+            (λ (t : (q ≢ p) × (get_elem? r.logs q ≡ some m)). r.made q m t.1)
+            (at_set r.logs p q (e ∷ l) m x);
+        few = λ n q m x. ⊎_elim
+            (λ (t : (q ≡ p) × (e ∷ l ≡ m)). subst (λ (z : Log). length (made_by n z) ≤ most_events) t.1
+            (few-more n e l few (r.few n p l log)))
+            (λ (t : (q ≢ p) × (get_elem? r.logs q ≡ some m)). r.few n q m t.1)
+            (at_set r.logs p q (e ∷ l) m x);
+        rests = λ q m x y. ⊎_elim
+            (λ (t : (q ≡ p) × (e ∷ l ≡ m)). subst (λ (z : ℕ × Log). Rests (set s.words p (length l + 1)) (set s.homes p (some (Some (page_state pool.first (e ∷ l))))) pool.first z.0 z.1) (λ i. (sym t.0 i, t.1 i)) record {
+              counted = set_here s.words p (length l + 1) (low pool s r id p v at l log) ∙ ap (λ (z : ℕ). some z) (omega arith);
+              lies = set_here s.homes p (some (Some (page_state pool.first (e ∷ l)))) (low_home pool s r id p v at l log);
+            })
+            (λ (t : (q ≢ p) × (get_elem? r.logs q ≡ some m)). let old = r.rests q m t.1 (λ z. y (set_else s.words p q (length l + 1) t.0 ∙ z)) in
+            record { counted = set_else s.words p q (length l + 1) t.0 ∙ old.counted; lies = set_else s.homes p q (some (Some (page_state pool.first (e ∷ l)))) t.0 ∙ old.lies })
+            (at_set r.logs p q (e ∷ l) m x);
+        views = λ j u x. ⊎_elim
+            (λ (t : (j ≡ id) × (One w ≡ u)). subst (ViewFits pool.seats (set s.words p (length l + 1)) (set r.logs p (e ∷ l)) (e ∷ r.past)) t.1 record {
+              among = (mine pool s r id p v at l log).among;
+              made = makes_new v.number v.made r.logs p e l refl here (mine pool s r id p v at l log).made log;
+              pasts = past-gives r.past v p event l (set r.logs p (e ∷ l)) (mine pool s r id p v at l log).pasts whole (sees_new v.seen r.logs p (e ∷ l) (mine pool s r id p v at l log).seen);
+              seen = sees_new v.seen r.logs p (e ∷ l) (mine pool s r id p v at l log).seen;
+              other = grows v.other r.logs p e l (mine pool s r id p v at l log).other log;
+              own = sees_new_own v.number v.seen r.logs p (e ∷ l) (mine pool s r id p v at l log).own;
+              held = tt;
+            })
+            (λ (t : (j ≢ id) × (get_elem? s.views j ≡ some u)). others_grow pool.seats s.words r.logs r.past p (length l + 1) e l u log
+            (λ a is. let here : get_elem? s.views j ≡ some (One a) = t.1 ∙ ap (λ (z : View). some z) (sym is) in
+            ((λ same. t.0 (r.apart j id a v here at (sym same))), (λ h. t.0 (r.one_holder j id a v p here at h turn))))
+            (λ k lists is. let low = r.below id j k v lists at (t.1 ∙ ap (λ (z : View). some z) (sym is)) in omega arith)
+            (r.views j u t.1))
+            (at_set s.views id j (One w) u x);
+        apart = numbers_apart pool s r id v w at refl;
+        below = all_below pool s r id v w at refl;
+        one_rest = only_rest pool s r id w;
+        one_holder = λ i j a b q x y f g. ⊎_elim
+            (λ (t : (i ≡ id) × (One w ≡ One a)). absurd (no_hold q (ap (λ (z : Sight). z.hold) (one_is w a t.1) ∙ f)))
+            (λ (t : (i ≢ id) × (get_elem? s.views i ≡ some (One a))). ⊎_elim
+            (λ (u : (j ≡ id) × (One w ≡ One b)). absurd (no_hold q (ap (λ (z : Sight). z.hold) (one_is w b u.1) ∙ g)))
+            (λ (u : (j ≢ id) × (get_elem? s.views j ≡ some (One b))). r.one_holder i j a b q t.1 u.1 f g)
+            (at_set s.views id j (One w) (One b) y))
+            (at_set s.views id i (One w) (One a) x);
+      }
 
 -- a page that was taken goes back with an event more
 pub gives_back : (pool : Opening) (slots id p x : ℕ) (v : Sight) (l : Log) (event : PageEvent) (content : PageState) → v.hold ≡ Has p → get_elem? v.seen p ≡ some l
@@ -317,7 +317,7 @@ gives_back pool slots id p x v l event content turn seen here may few is whole s
       subst (λ (z : ℕ × PageState). Kept pool record { words = set s.words p z.0; homes = set s.homes p (some (Some z.1)); views = set s.views id (One (gave v p event l r.past)) }) (λ i. (sym is i, sym whole i))
           (gives_page pool s r id p v at l log turn event here may few),
       (λ m there. let same = some-injective l m (sym seen ∙ there) in
-      (r.past, (λ i. (One (gave v p event (same i) r.past), [])), sees-after p v m r.past (r.parts p l log ∙ same) (r.views id (One v) at).pasts)),
+          (r.past, (λ i. (One (gave v p event (same i) r.past), [])), sees-after p v m r.past (r.parts p l log ∙ same) (r.views id (One v) at).pasts)),
     )
 
 held_off : (h : Hold) (words : List ℕ) (seen logs : List Log) (p x : ℕ) → (h ≡ Has p → ⊥) → IsHeld h words seen logs → IsHeld h (set words p x) seen logs

@@ -64,16 +64,19 @@ module _ (first page count : ℕ) (old new : Sat) (content : PageState) (h : IsI
       let g = subst (λ (w : Sight). (l : Log) → get_elem? w.seen page ≡ some l
       → (past : Log) × (me ≡ (One (gave w page event l past), [])) × IsPastAfter page w l past) sight given h.log h.seen in (
         g.0,
-        g.1 ∙ (λ i. (One (record {
-          number = v.number;
-          made = event ∷ v.made;
-          past = (record { pass = v.number; event = event }) ∷ g.0;
-          seen = set-set v.seen page h.log ((record { pass = v.number; event = event }) ∷ h.log) i;
-          other_past = v.other_past;
-          other = v.other;
-          hold = sym free i;
-          refusals = v.refusals;
-        }), [])),
+        g.1 ∙ (λ i. (
+          One (record {
+            number = v.number;
+            made = event ∷ v.made;
+            past = (record { pass = v.number; event = event }) ∷ g.0;
+            seen = set-set v.seen page h.log ((record { pass = v.number; event = event }) ∷ h.log) i;
+            other_past = v.other_past;
+            other = v.other;
+            hold = sym free i;
+            refusals = v.refusals;
+          }),
+          [],
+        )),
         given-after g.0 g.2,
       )
 

@@ -1,16 +1,14 @@
 -- Passes that have seen the same past of all pages.
-use Rattle.std.proofs.Common.{◌≡◌, ℕ, ◌<◌, ◌≤◌, List, [], ◌∷◌, ◌++◌, length, slice_index_or, refl, sym, ap, ◌∙◌, subst, arith, ⊎_elim, length-append}
+use Rattle.std.proofs.Common.{◌≡◌, ℕ, ◌<◌, List, [], ◌∷◌, ◌++◌, length, slice_index_or, refl, sym, ap, ◌∙◌, subst, arith, ⊎_elim, length-append}
 use Rattle.std.proofs.lemmas.Bool.{cases_eq}
-use mathlib.Core.Option.{some}
 use lib.ListN.{get_elem?}
 use Rattle.smbd_base.specs.declared.page_event.PageEvent.{PageEvent}
-use Rattle.smbd_base.specs.Pages.{Entry, page_in, entries_on}
+use Rattle.smbd_base.specs.Pages.{page_in, entries_on}
 use Rattle.smbd_base.specs.PagesFit.{AreMadeBy, events_by}
 use Rattle.smbd_base.proofs.PassLists.{events_by-here, events_by-other}
 use Rattle.smbd_base.proofs.PoolLives.{entries_on-here, entries_on-other}
-use Rattle.shared_pages.specs.declared.view.Opening.{Opening}
 use Rattle.shared_pages.specs.declared.view.Sight.{Sight}
-use Rattle.shared_pages.specs.Rule.{Log, Ends, IsPast, AreParts, events_on, Knows}
+use Rattle.shared_pages.specs.Rule.{Log, Ends, IsPast, AreParts, events_on}
 use Rattle.shared_pages.specs.Meets.{MeetingMakesOnePast, MeetingSeesAll}
 use Rattle.shared_pages.proofs.Fitting.{events_by-append}
 use Rattle.shared_pages.proofs.Making.{events_on-here, events_on-other}

@@ -138,3 +138,7 @@ pub record PastsMet (one other now then : Sight) : Type 0 where
   pub compare : Compare one.past other.past
   pub first : now.past ≡ longer one.past other.past
   pub even : then.past ≡ now.past
+
+-- the pass made this event, and no other
+abbrev pub Makes : PageEvent → Sight → Sight → Type 0
+Makes event old new = new.made ≡ event ∷ old.made
