@@ -1,7 +1,6 @@
 -- What one call of a worker answers, and what a call of up to 16 jobs did.
-use Rattle.std.proofs.Common.{◌≡◌, ◌≢◌, ℕ, zero, suc, ◌+◌, ◌<◌, ◌≤◌, ◌⊎◌, inl, inr, Bool, true, false, Option, Some, None, List, [], ◌∷◌, ◌++◌, length, refl, sym, ap, ◌∙◌, subst, arith, length-append}
+use Rattle.std.proofs.Common.{◌≡◌, ◌≢◌, ℕ, zero, suc, ◌+◌, ◌<◌, ◌≤◌, ◌⊎◌, Bool, true, false, Option, Some, None, List, [], ◌∷◌, ◌++◌, length, refl, sym, ap, ◌∙◌, subst, arith, length-append}
 use Rattle.std.specs.Prelude.{option_to_list}
-use Rattle.file_messages.specs.declared.job.Job.{Job}
 use Rattle.file_messages.specs.declared.job.Completion.{Completion}
 use Rattle.event_log.specs.declared.log_line.LogLine.{LogLine}
 use Rattle.completion_ring.specs.declared.jobs.Jobs.{Jobs}
@@ -9,15 +8,13 @@ use Rattle.completion_ring.specs.Rings.{sent, free, SameJobs}
 use Rattle.std.proofs.lemmas.List.{append-nil}
 use Rattle.shared_workers.proofs.WentLemmas.{jobs-here}
 use Rattle.shared_pages.specs.declared.view.Opening.{Opening}
-use Rattle.shared_pages.specs.declared.view.Sight.{Sight}
-use Rattle.shared_pages.specs.declared.page_pass.PagePass.{PagePass}
 use Rattle.shared_pages.specs.Calls.{known_by}
 use Rattle.page_workers.specs.declared.kept.Kept.{Kept}
 use Rattle.page_workers.specs.declared.kept.Tried.{Tried}
 use Rattle.page_workers.specs.declared.kept.Tried.TheVariants.{Finished, Begun, Refused}
 use Rattle.shared_workers.specs.declared.answer.One.TheVariants as ones
 use Rattle.shared_workers.specs.Tries.{HasTried}
-use Rattle.shared_workers.specs.Workers.{WorkerState, taken, finished, WentOn, IsNext, HasKept, TriedKept, TriedNext, TriedNone, IsUntried, kept_after, told_by, is_finished, HasAnswered, HasFinished, HasTriedJobs, HasRun, IsIdle, IsFull, waits}
+use Rattle.shared_workers.specs.Workers.{WorkerState, finished, WentOn, TriedKept, TriedNext, kept_after, told_by, is_finished, HasAnswered, HasFinished, HasTriedJobs, HasRun, IsIdle, IsFull, waits}
 
 -- a job that was tried, and isn't finished
 pub tried-left : (pool : Opening) (a b : WorkerState) (kept : Kept) (tried : Tried) (line : Option LogLine) → a.kept ≡ Some kept
@@ -44,10 +41,10 @@ tried-left pool a b kept tried line is tries over left number jobs done none sti
       full = λ no. absurd (no still);
     }
   where
-  nothing : (t : Tried) → is_finished t ≡ false → (cs : List Completion) → cs ≡ cs ++ told_by t
-  nothing (Finished c) e cs = absurd (let no : ⊥ = cc in no)
-  nothing (Begun k) e cs = sym (append-nil cs)
-  nothing Refused e cs = sym (append-nil cs)
+    nothing : (t : Tried) → is_finished t ≡ false → (cs : List Completion) → cs ≡ cs ++ told_by t
+    nothing (Finished c) e cs = absurd (let no : ⊥ = cc in no)
+    nothing (Begun k) e cs = sym (append-nil cs)
+    nothing Refused e cs = sym (append-nil cs)
 
 -- a job that isn't finished is kept
 pub held-tells : (pool : Opening) (a b : WorkerState) → TriedNext pool a b false → (finished b ≡ finished a ++ []) × (b.kept ≢ None)
@@ -75,7 +72,7 @@ all-sent a b w most full room = by b.unsent refl where
   by (Some c) is =
       let none : free b.done ≡ 0 = full (λ no. let bad : Some c ≡ None = sym is ∙ no in cc) in
       let one : length (finished b) ≡ length (sent b.done) + 1 =
-          ap (λ (o : Option Completion). length (sent b.done ++ option_to_list o)) is ∙ length-append (sent b.done) (c ∷ []) in
+      ap (λ (o : Option Completion). length (sent b.done ++ option_to_list o)) is ∙ length-append (sent b.done) (c ∷ []) in
       let before : length (finished a) ≡ length (sent a.done) + waits a = length-append (sent a.done) (option_to_list a.unsent) in
       let count = told-count a b w in
       let kept = w.room in

@@ -1,5 +1,5 @@
 -- A worker that went on, step by step.
-use Rattle.std.proofs.Common.{◌≡◌, ℕ, ◌+◌, ◌≤◌, inl, inr, Bool, Option, Some, None, List, [], ◌∷◌, ◌++◌, length, map, refl, sym, ap, ◌∙◌, subst, arith, append_assoc}
+use Rattle.std.proofs.Common.{◌≡◌, ◌+◌, ◌≤◌, inl, inr, Bool, Option, Some, None, List, [], ◌∷◌, ◌++◌, length, map, refl, sym, ap, ◌∙◌, subst, arith, append_assoc}
 use Rattle.std.specs.Prelude.{option_to_list, reverse}
 use Rattle.std.proofs.lemmas.List.{append-nil, map-append, reverse-append}
 use Rattle.smbd_base.specs.declared.page_event.PageEvent.{PageEvent}
@@ -13,8 +13,7 @@ use Rattle.completion_ring.specs.declared.done.Done.{Done}
 use Rattle.completion_ring.specs.Rings.{sent, received, free, SameJobs, SameDone}
 use Rattle.shared_pages.specs.declared.view.Opening.{Opening}
 use Rattle.shared_pages.specs.declared.view.Sight.{Sight}
-use Rattle.shared_pages.specs.declared.page_pass.PagePass.{PagePass}
-use Rattle.shared_pages.specs.Calls.{known_by, MadeAsMuch}
+use Rattle.shared_pages.specs.Calls.{known_by}
 use Rattle.page_workers.specs.declared.kept.Kept.{Kept}
 use Rattle.page_workers.specs.declared.kept.Kept.TheVariants as keeps
 use Rattle.page_workers.specs.declared.kept.Tried.{Tried}
@@ -133,12 +132,15 @@ module _ (a b : WorkerState) (same : b ≡ record a { jobs = b.jobs; kept = b.ke
       (λ h. does-by b a.kept (taken a) (finished a) (events a) kept took tells-same made-same h)
 
   pub went-keep : HasKept a b → WentOn a b
-  went-keep (kept, is, inl h) = went-idle h.1 (is ∙ sym h.0)
-  went-keep (kept, is, inr (none, job, fresh, takes)) = takes-some (job ∷ []) takes
+  went-keep (kept, (is, inl h)) = went-idle h.1 (is ∙ sym h.0)
+  went-keep (kept, (is, inr (none, (job, fresh, takes)))) = takes-some (job ∷ []) takes
       (λ h. does-by b (Some (keeps.Fresh job)) (taken a ++ job ∷ []) (finished a) (events a) (is ∙ ap (λ (k : Kept). Some k) fresh) takes tells-same made-same
-          (run-keep [] job (taken a ++ job ∷ []) (finished a) (events a)
-          (given-wait None [] (taken a) (finished a) (events a) job
-          (subst (λ (o : Option Kept). JobRun o [] (taken a) (finished a) (events a)) none h))))
+      (run-keep [] job (taken a ++ job ∷ []) (finished a) (events a)
+      (given-wait None [] (taken a) (finished a) (events a) job
+      (subst (λ (o : Option Kept). JobRun o [] (taken a) (finished a) (events a)) none h))))
+
+pub went-same : (w : WorkerState) → WentOn w w
+went-same w = went-idle w w refl (done-here w.jobs) refl refl
 
 -- ---- one try
 
@@ -182,7 +184,7 @@ module _ (pool : Opening) (a b : WorkerState) (over : Bool) (t : TriedKept pool 
       let makes : events b ≡ events a ++ f.event ∷ [] = newest f.event (known_by a.pass).made (known_by b.pass).made f.makes.made in
       tried (c ∷ []) (f.event ∷ []) tells f.makes.number makes (lines-by line (Some (logged_page f.event)) (logged_page f.event ∷ []) lines f.told refl)
       (λ h. does-by b None (taken a) (finished a ++ c ∷ []) (events a ++ f.event ∷ []) left takes-same tells makes
-          (run-finish kept j [] (taken a) (finished a) (events a) c f.event whole f.done (was kept is h)))
+      (run-finish kept j [] (taken a) (finished a) (events a) c f.event whole f.done (was kept is h)))
 
   undone : (kept : Kept) (line : Option LogLine) → a.kept ≡ Some kept → b.kept ≡ Some kept → finished b ≡ finished a ++ [] → b.lines ≡ a.lines ++ option_to_list line
       → IsUndone pool kept line (known_by a.pass) (known_by b.pass) → WentOn a b
@@ -200,27 +202,27 @@ module _ (pool : Opening) (a b : WorkerState) (over : Bool) (t : TriedKept pool 
       let makes : events b ≡ events a ++ load ∷ [] = newest load (known_by a.pass).made (known_by b.pass).made h.makes.made in
       tried [] (load ∷ []) tells h.makes.number makes (lines-by line (Some (logged_page load)) (logged_page load ∷ []) lines h.told refl)
       (λ d. does-by b (Some (keeps.Loaded number token right len)) (taken a) (finished a) (events a ++ load ∷ []) left takes-same (tells ∙ append-nil (finished a)) makes
-          (run-left (keeps.Fresh j) (keeps.Loaded number token right len) [] (taken a) (finished a) (events a) (load ∷ [])
-              (λ x before this. record {
-                lawful = h.lawful;
-                bytes = h.bytes;
-                length_is = h.length_is;
-                job_is = this.0 ∙ h.load_is;
-                made_is = ap (λ (es : List PageEvent). es ++ load ∷ []) this.1;
-              })
-              (was (keeps.Fresh j) is d)))
+      (run-left (keeps.Fresh j) (keeps.Loaded number token right len) [] (taken a) (finished a) (events a) (load ∷ [])
+      (λ x before this. record {
+        lawful = h.lawful;
+        bytes = h.bytes;
+        length_is = h.length_is;
+        job_is = this.0 ∙ h.load_is;
+        made_is = ap (λ (es : List PageEvent). es ++ load ∷ []) this.1;
+      })
+      (was (keeps.Fresh j) is d)))
   by (keeps.Fresh j) (Begun (keeps.Withdrawn number token)) line is left tells lines h =
       let makes : events b ≡ events a ++ [] = stays (events a) (events b) (ap (λ (l : List PageEvent). reverse l) h.made.made) in
       tried [] [] tells h.made.number makes (lines-by line None [] lines h.silent refl)
       (λ d. does-by b (Some (keeps.Withdrawn number token)) (taken a) (finished a) (events a ++ []) left takes-same (tells ∙ append-nil (finished a)) makes
-          (run-left (keeps.Fresh j) (keeps.Withdrawn number token) [] (taken a) (finished a) (events a) []
-              (λ x before this. (this.0 ∙ h.unload_is, ap (λ (es : List PageEvent). es ++ []) this.1)) (was (keeps.Fresh j) is d)))
+      (run-left (keeps.Fresh j) (keeps.Withdrawn number token) [] (taken a) (finished a) (events a) []
+      (λ x before this. (this.0 ∙ h.unload_is, ap (λ (es : List PageEvent). es ++ []) this.1)) (was (keeps.Fresh j) is d)))
   by (keeps.Fresh j) Refused line is left tells lines h = undone (keeps.Fresh j) line is left tells lines h
   by (keeps.Loaded number token right len) (Finished c) line is left tells lines h =
       let makes : events b ≡ events a = ap (λ (v : Sight). reverse v.made) h.same in
       tried (c ∷ []) [] tells (ap (λ (v : Sight). v.number) h.same) (stays (events a) (events b) makes) (lines-by line None [] lines h.silent refl)
       (λ d. does-by b None (taken a) (finished a ++ c ∷ []) (events a) left takes-same tells makes
-          (run-issue number token right len [] (taken a) (finished a) (events a) c h.says (was (keeps.Loaded number token right len) is d)))
+      (run-issue number token right len [] (taken a) (finished a) (events a) c h.says (was (keeps.Loaded number token right len) is d)))
   by (keeps.Loaded number token right len) (Begun k) line is left tells lines h = absurd h
   by (keeps.Loaded number token right len) Refused line is left tells lines h = undone (keeps.Loaded number token right len) line is left tells lines h
   by (keeps.Withdrawn number token) (Finished c) line is left tells lines h =

@@ -18,7 +18,7 @@ use Rattle.page_workers.specs.declared.kept.Tried.TheVariants.{Finished, Begun, 
 use Rattle.page_workers.specs.Runs.{JobRun}
 use Rattle.shared_workers.specs.declared.answer.One.{One}
 use Rattle.shared_workers.specs.declared.answer.One.TheVariants.{Did, Held, Idle, Full}
-use Rattle.shared_workers.specs.Tries.{HasTried, IsRefused, IsFit}
+use Rattle.shared_workers.specs.Tries.{HasTried}
 
 -- The worker's number, its pass, the job that it keeps, the ring from which its jobs come, the ring to which its completions go, the
 -- completion for which that one had no room, and the lines of its events that weren't told.

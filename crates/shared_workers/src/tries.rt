@@ -71,12 +71,7 @@ fn try_fresh(region: &Region, pass: &mut PagePass, job: &Job, room: Vec<u8>) -> 
 }
 
 /// Tries what is left of a job once. `room` is where bytes are copied to.
-pub(crate) fn try_once(
-    region: &Region,
-    pass: &mut PagePass,
-    kept: &Kept,
-    room: Vec<u8>,
-) -> Attempt
+pub(crate) fn try_once(region: &Region, pass: &mut PagePass, kept: &Kept, room: Vec<u8>) -> Attempt
     requires own { IsOf region.now.pages pass.old }
     requires few { MayMake (known_by pass.old) }
     requires room { vec_len room ≡ room_of kept.now }

@@ -1,4 +1,4 @@
-use Rattle.std.proofs.Common.{rules, ◌≡◌, sym, subst}
+use Rattle.std.proofs.Common.{rules, sym, subst}
 use Rattle.shared_pages.specs.Calls.{opening_of}
 use Rattle.shared_workers.specs.Workers.{WorkerState, WentOn}
 use Rattle.shared_workers.proofs.WentLemmas.{went-send, went-idle, went-keep, went-try, went-trans}
@@ -23,8 +23,8 @@ returns-in_err-try_kept-clause-went c =
     let k = c.keep_next.ensures in
     subst (λ (w : WorkerState). WentOn c.args.self.now w) (sym c.in_err-try_kept.ensures.same)
     (went-trans c.args.self.now c.send_unsent.new.self c.keep_next.new.self
-        (went-send c.args.self.now c.send_unsent.new.self s.same s.ring s.told s.sent.0 s.sent.1 s.room)
-        (went-keep c.send_unsent.new.self c.keep_next.new.self k.same k.ring (k.kept c.if-not-keep_next.false)))
+    (went-send c.args.self.now c.send_unsent.new.self s.same s.ring s.told s.sent.0 s.sent.1 s.room)
+    (went-keep c.send_unsent.new.self c.keep_next.new.self k.same k.ring (k.kept c.if-not-keep_next.false)))
 
 pub returns-then-branch-clause-went : goal.returns-then-branch-clause-went
 returns-then-branch-clause-went c =
@@ -32,8 +32,8 @@ returns-then-branch-clause-went c =
     let k = c.keep_next.ensures in
     went-trans c.args.self.now c.keep_next.new.self c.try_kept.new.self
     (went-trans c.args.self.now c.send_unsent.new.self c.keep_next.new.self
-        (went-send c.args.self.now c.send_unsent.new.self s.same s.ring s.told s.sent.0 s.sent.1 s.room)
-        (went-keep c.send_unsent.new.self c.keep_next.new.self k.same k.ring (k.kept c.if-not-keep_next.false)))
+    (went-send c.args.self.now c.send_unsent.new.self s.same s.ring s.told s.sent.0 s.sent.1 s.room)
+    (went-keep c.send_unsent.new.self c.keep_next.new.self k.same k.ring (k.kept c.if-not-keep_next.false)))
     (went-try (opening_of c.args.region.now.pages) c.keep_next.new.self c.try_kept.new.self c.in_ok-try_kept.field-0 c.in_ok-try_kept.ensures.tried)
 
 pub returns-else-branch-clause-went : goal.returns-else-branch-clause-went
@@ -42,6 +42,6 @@ returns-else-branch-clause-went c =
     let k = c.keep_next.ensures in
     went-trans c.args.self.now c.keep_next.new.self c.try_kept.new.self
     (went-trans c.args.self.now c.send_unsent.new.self c.keep_next.new.self
-        (went-send c.args.self.now c.send_unsent.new.self s.same s.ring s.told s.sent.0 s.sent.1 s.room)
-        (went-keep c.send_unsent.new.self c.keep_next.new.self k.same k.ring (k.kept c.if-not-keep_next.false)))
+    (went-send c.args.self.now c.send_unsent.new.self s.same s.ring s.told s.sent.0 s.sent.1 s.room)
+    (went-keep c.send_unsent.new.self c.keep_next.new.self k.same k.ring (k.kept c.if-not-keep_next.false)))
     (went-try (opening_of c.args.region.now.pages) c.keep_next.new.self c.try_kept.new.self c.in_ok-try_kept.field-0 c.in_ok-try_kept.ensures.tried)

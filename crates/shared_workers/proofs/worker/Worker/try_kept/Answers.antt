@@ -1,7 +1,6 @@
-use Rattle.std.proofs.Common.{rules, ◌≡◌, ap, sym, ◌∙◌, subst, None, Some, Option}
+use Rattle.std.proofs.Common.{rules, ap, sym, subst}
 use Rattle.shared_pages.specs.declared.page_pass.PagePass.{PagePass}
 use Rattle.shared_pages.specs.Calls.{known_by, opening_of}
-use Rattle.page_workers.specs.declared.kept.Kept.{Kept}
 use Rattle.page_workers.specs.declared.kept.Tried.{Tried}
 use Rattle.shared_workers.specs.Tries.{HasTried}
 use Rattle.shared_workers.specs.Workers.{WorkerState, kept_after, is_finished}
@@ -14,9 +13,9 @@ returns-in-Begun-clause-tried c =
     let is = c.self.view_is in
     tried-left (opening_of c.args.region.now.pages) c.args.self.now _ c.in-Some.kept t c.try_once-tried.result.line (search rules)
     (subst (λ (p : PagePass). HasTried (opening_of c.args.region.now.pages) c.in-Some.kept t c.try_once-tried.result.line (known_by p) (known_by c.try_once-tried.new.pass))
-        (sym (ap (λ (w : WorkerState). w.pass) is)) c.try_once-tried.ensures.tried)
+    (ap (λ (w : WorkerState). w.pass) is) c.try_once-tried.ensures.tried)
     (ap (λ (x : Tried). is_finished x) c.in-Begun.is) (sym (ap (λ (x : Tried). kept_after c.in-Some.kept x) c.in-Begun.is))
-    (sym (ap (λ (w : WorkerState). w.number) is)) (sym (ap (λ (w : WorkerState). w.jobs) is)) (sym (ap (λ (w : WorkerState). w.done) is)) c.requires.sent (search rules) (search rules)
+    (ap (λ (w : WorkerState). w.number) is) (ap (λ (w : WorkerState). w.jobs) is) (ap (λ (w : WorkerState). w.done) is) c.requires.sent (search rules) (search rules)
 
 pub returns-in-Refused-clause-tried : goal.returns-in-Refused-clause-tried
 returns-in-Refused-clause-tried c =
@@ -24,6 +23,6 @@ returns-in-Refused-clause-tried c =
     let is = c.self.view_is in
     tried-left (opening_of c.args.region.now.pages) c.args.self.now _ c.in-Some.kept t c.try_once-tried.result.line (search rules)
     (subst (λ (p : PagePass). HasTried (opening_of c.args.region.now.pages) c.in-Some.kept t c.try_once-tried.result.line (known_by p) (known_by c.try_once-tried.new.pass))
-        (sym (ap (λ (w : WorkerState). w.pass) is)) c.try_once-tried.ensures.tried)
+    (ap (λ (w : WorkerState). w.pass) is) c.try_once-tried.ensures.tried)
     (ap (λ (x : Tried). is_finished x) c.in-Refused.is) (search rules)
-    (sym (ap (λ (w : WorkerState). w.number) is)) (sym (ap (λ (w : WorkerState). w.jobs) is)) (sym (ap (λ (w : WorkerState). w.done) is)) c.requires.sent (search rules) (search rules)
+    (ap (λ (w : WorkerState). w.number) is) (ap (λ (w : WorkerState). w.jobs) is) (ap (λ (w : WorkerState). w.done) is) c.requires.sent (search rules) (search rules)
