@@ -1,2 +1,3 @@
 pub mod WentLemmas
 pub mod AnswerLemmas
+pub mod IssueLemmas

@@ -127,6 +127,23 @@ IsRefused pool (keeps.Fresh j) old new = WorkRefused pool j.work old new
 IsRefused pool (keeps.Loaded number token right len) old new = IssueRefused token old new
 IsRefused pool (keeps.Withdrawn number token) old new = PageRefused pool token old new
 
+-- ---- what the region's answer makes of a job
+
+-- a load is finished where the record of its page was issued
+abbrev pub loaded_as : Register → ℕ → Right → ℕ → Tried
+loaded_as (registers.Registered d) number right len = Finished (record { number = number; result = Loaded d })
+loaded_as (registers.Unissued token issue) number right len = Begun (keeps.Loaded number token right len)
+loaded_as (registers.Live token) number right len = Refused
+loaded_as registers.Busy number right len = Refused
+loaded_as registers.Spent number right len = Refused
+
+-- and where it is issued later
+abbrev pub issued_as : Issue → ℕ → PageToken → ℕ → Tried
+issued_as issues.Done number token len = Finished (record { number = number; result = Loaded (descriptor_of_page token len) })
+issued_as (issues.Present other) number token len = Refused
+issued_as issues.Busy number token len = Refused
+issued_as (issues.Again seen found) number token len = Refused
+
 -- ---- what one try leaves
 
 -- the pass made this event alone

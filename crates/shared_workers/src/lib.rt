@@ -8,6 +8,7 @@
 mod accesses;
 mod answer;
 mod loads;
+mod meetings;
 mod run;
 mod tries;
 mod unloads;

@@ -5,7 +5,7 @@ ghost use Rattle.shared_pages.specs.declared.view.Sight.{Sight};
 ghost use Rattle.shared_pages.specs.Calls.{known_by, opening_of, IsOf, MayMake};
 ghost use Rattle.page_workers.specs.declared.kept.Kept.TheVariants as keeps;
 ghost use Rattle.page_workers.specs.Tries.{load_job};
-ghost use Rattle.shared_workers.specs.Tries.{HasTried};
+ghost use Rattle.shared_workers.specs.Tries.{HasTried, loaded_as, issued_as};
 
 use crate::tries::{Attempt, refused};
 use buffer_descriptor::Descriptor;
@@ -16,6 +16,46 @@ use shared_pages::PagePass;
 use shared_records::Issue;
 use shared_region::{Region, Register};
 use smbd_base::{Message, PAGE_SIZE, Right, Token};
+
+/// What the answer of a registration makes of a load.
+fn loaded(answer: Register, number: u64, right: Right, length: u32) -> Tried
+    ensures { result ≡ loaded_as answer number right length }
+{
+    match answer {
+        Register::Registered(descriptor) => Tried::Finished(Completion {
+            number,
+            result: WorkResult::Loaded(descriptor),
+        }),
+        Register::Unissued { token, .. } => Tried::Begun(Kept::Loaded {
+            number,
+            token,
+            right,
+            length,
+        }),
+        Register::Live(_) => Tried::Refused,
+        Register::Busy => Tried::Refused,
+        Register::Spent => Tried::Refused,
+    }
+}
+
+/// What the answer of issuing a record makes of a load.
+fn issued(answer: Issue, number: u64, token: Token, length: u32) -> Tried
+    ensures { result ≡ issued_as answer number token length }
+{
+    match answer {
+        Issue::Done => Tried::Finished(Completion {
+            number,
+            result: WorkResult::Loaded(Descriptor {
+                offset: token.start(),
+                token: token.number(),
+                length,
+            }),
+        }),
+        Issue::Present(_) => Tried::Refused,
+        Issue::Busy => Tried::Refused,
+        Issue::Again { .. } => Tried::Refused,
+    }
+}
 
 /// Loads a page, and issues its record.
 pub(crate) fn load(
@@ -39,16 +79,15 @@ pub(crate) fn load(
         return refused();
     }
     let length = bytes.len() as u32;
-    match region.register(pass, page, right, bytes.bytes()) {
+    let answer = region.register(pass, page, right, bytes.bytes());
+    let tried = loaded(answer, number, right, length);
+    match answer {
         Register::Registered(descriptor) => {
             let Some(token) = Token::from_number(descriptor.token) else {
                 unreachable!()
             };
             Attempt {
-                tried: Tried::Finished(Completion {
-                    number,
-                    result: WorkResult::Loaded(descriptor),
-                }),
+                tried,
                 line: Some(LogLine::Load {
                     token,
                     right,
@@ -57,21 +96,16 @@ pub(crate) fn load(
             }
         }
         Register::Unissued { token, .. } => Attempt {
-            tried: Tried::Begun(Kept::Loaded {
-                number,
-                token,
-                right,
-                length,
-            }),
+            tried,
             line: Some(LogLine::Load {
                 token,
                 right,
                 length,
             }),
         },
-        Register::Live(_) => refused(),
-        Register::Busy => refused(),
-        Register::Spent => refused(),
+        Register::Live(_) => Attempt { tried, line: None },
+        Register::Busy => Attempt { tried, line: None },
+        Register::Spent => Attempt { tried, line: None },
     }
 }
 
@@ -91,20 +125,9 @@ pub(crate) fn issue(
     if length == 0 || length > PAGE_SIZE {
         return refused();
     }
-    match region.retry_issue(token, right, length) {
-        Issue::Done => Attempt {
-            tried: Tried::Finished(Completion {
-                number,
-                result: WorkResult::Loaded(Descriptor {
-                    offset: token.start(),
-                    token: token.number(),
-                    length,
-                }),
-            }),
-            line: None,
-        },
-        Issue::Present(_) => refused(),
-        Issue::Busy => refused(),
-        Issue::Again { .. } => refused(),
+    let answer = region.retry_issue(token, right, length);
+    Attempt {
+        tried: issued(answer, number, token, length),
+        line: None,
     }
 }

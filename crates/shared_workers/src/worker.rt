@@ -24,10 +24,10 @@ use std::marker::Model;
 pub struct Worker {
     alloc: Global,
     number: u8,
-    pass: PagePass,
+    pub(crate) pass: PagePass,
     kept: Option<Kept>,
-    jobs: Done<Job>,
-    done: Jobs<Completion>,
+    pub(crate) jobs: Done<Job>,
+    pub(crate) done: Jobs<Completion>,
     unsent: Option<Completion>,
     lines: Vec<LogLine>,
 }
