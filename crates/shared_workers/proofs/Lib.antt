@@ -1,3 +1,2 @@
 pub mod WentLemmas
 pub mod AnswerLemmas
-pub mod IssueLemmas

@@ -18,17 +18,17 @@ use shared_region::{Region, Register};
 use smbd_base::{Message, PAGE_SIZE, Right, Token};
 
 /// What the answer of a registration makes of a load.
-fn loaded(answer: Register, number: u64, right: Right, length: u32) -> Tried
-    ensures { result ≡ loaded_as answer number right length }
+fn loaded(answer: &Register, number: u64, right: Right, length: u32) -> Tried
+    ensures { result ≡ loaded_as answer.now number right length }
 {
     match answer {
         Register::Registered(descriptor) => Tried::Finished(Completion {
             number,
-            result: WorkResult::Loaded(descriptor),
+            result: WorkResult::Loaded(*descriptor),
         }),
         Register::Unissued { token, .. } => Tried::Begun(Kept::Loaded {
             number,
-            token,
+            token: *token,
             right,
             length,
         }),
@@ -80,8 +80,8 @@ pub(crate) fn load(
     }
     let length = bytes.len() as u32;
     let answer = region.register(pass, page, right, bytes.bytes());
-    let tried = loaded(answer, number, right, length);
-    match answer {
+    let tried = loaded(&answer, number, right, length);
+    match &answer {
         Register::Registered(descriptor) => {
             let Some(token) = Token::from_number(descriptor.token) else {
                 unreachable!()
@@ -98,7 +98,7 @@ pub(crate) fn load(
         Register::Unissued { token, .. } => Attempt {
             tried,
             line: Some(LogLine::Load {
-                token,
+                token: *token,
                 right,
                 length,
             }),
