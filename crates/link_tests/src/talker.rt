@@ -111,6 +111,21 @@ impl Talker {
         self.drive(rt, gate, link) || self.take(rt, gate, link) || self.submit(rt, gate, link)
     }
 
+    /// Whether the end is cut.
+    pub fn is_cut(&self, rt: &impl Abort) -> bool {
+        assert!(rt; !self.end.is_over());
+        self.end.is_cut()
+    }
+
+    /// Cuts the link, and the end with it.
+    pub fn cut<G: Gate>(&mut self, rt: &impl Abort, gate: &G, link: &Link)
+        requires own { IsOf link.now self.old.end }
+        ensures own { IsOf link.now self.new.end }
+    {
+        assert!(rt; !self.is_cut(rt));
+        self.end.cut(gate, link);
+    }
+
     /// Does what comes next at the end, if anything does.
     fn drive<G: Gate>(&mut self, rt: &impl Abort, gate: &G, link: &Link) -> bool
         requires on { GoesOnAt link.now self.old.end }
@@ -161,6 +176,17 @@ impl Talker {
     }
 }
 
+/// What each end took and submitted is what the other sent, and what it was to say.
+pub fn assert_fit(rt: &impl Abort, client: &Talker, server: &Talker) {
+    assert!(rt; !client.end.is_over() && !server.end.is_over());
+    let one = client.end.history();
+    let other = server.end.history();
+    assert!(rt; are_sent(one, other), "the client took what the server sent");
+    assert!(rt; are_sent(other, one), "the server took what the client sent");
+    assert!(rt; are_submitted(one, &client.words, client.said));
+    assert!(rt; are_submitted(other, &server.words, server.said));
+}
+
 /// Both ends meet.
 pub fn meet_both(rt: &impl Abort, link: &Link, client: &mut Talker, server: &mut Talker)
     requires own { IsOf link.now client.old.end }
@@ -207,12 +233,13 @@ pub fn are_sent(taken: &[Event], sent: &[Event]) -> bool {
             .all(|(one, other)| one == other)
 }
 
-/// Whether just these messages were submitted, in order.
-pub fn are_submitted(history: &[Event], said: &[Message]) -> bool {
-    history.iter().filter_map(bytes_submitted).count() == said.len()
+/// Whether just the first so many of these messages were submitted, in order.
+pub fn are_submitted(history: &[Event], words: &[Message], said: usize) -> bool {
+    history.iter().filter_map(bytes_submitted).count() == said
+        && said <= words.len()
         && history
             .iter()
             .filter_map(bytes_submitted)
-            .zip(said)
+            .zip(words)
             .all(|(bytes, message)| bytes == message.bytes())
 }
