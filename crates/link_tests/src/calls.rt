@@ -248,11 +248,19 @@ fn a_message_crosses_in_two_frames(rt: HostRuntime) {
 fn messages_that_are_refused_come_back(rt: HostRuntime) {
     const CALLS: &[(EndId, Call, Answer)] = &[
         (Client, Call::Submit(0), Answer::Refused(SubmitFault::Empty)),
-        (Client, Call::Submit(131_073), Answer::Refused(SubmitFault::TooLong)),
+        (
+            Client,
+            Call::Submit(131_073),
+            Answer::Refused(SubmitFault::TooLong),
+        ),
         (Client, Call::Submit(131_072), Answer::Done),
         (Server, Call::Submit(1), Answer::Done),
         (Client, Call::Cut, Answer::Done),
-        (Client, Call::Submit(1), Answer::Refused(SubmitFault::Closed)),
+        (
+            Client,
+            Call::Submit(1),
+            Answer::Refused(SubmitFault::Closed),
+        ),
     ];
     follow(&rt, rt.alloc(), CALLS, b"PSC", b"PS");
 }
@@ -269,7 +277,11 @@ fn both_ends_find_out_a_cut(rt: HostRuntime) {
         (Server, Call::Submit(1), Answer::Done),
         (Server, Call::Take, Answer::IsCut),
         (Server, Call::Take, Answer::NotReady),
-        (Server, Call::Submit(1), Answer::Refused(SubmitFault::Closed)),
+        (
+            Server,
+            Call::Submit(1),
+            Answer::Refused(SubmitFault::Closed),
+        ),
         (Server, Call::Meet, Answer::Done),
     ];
     follow(&rt, rt.alloc(), AT_A_TAKE, b"PEC", b"PSC");

@@ -48,7 +48,9 @@ fn numbered(rt: &impl Abort, alloc: Global, mark: u8, number: u16) -> Message {
     bytes.push((number % 256) as u8).expect(rt, MEMORY);
     bytes.push((number / 256) as u8).expect(rt, MEMORY);
     for i in 3..len {
-        bytes.push(((usize::from(number) + i) % 256) as u8).expect(rt, MEMORY);
+        bytes
+            .push(((usize::from(number) + i) % 256) as u8)
+            .expect(rt, MEMORY);
     }
     Message::of_bytes(bytes).expect(rt, MEMORY)
 }
@@ -57,7 +59,9 @@ fn numbered(rt: &impl Abort, alloc: Global, mark: u8, number: u16) -> Message {
 pub fn messages(rt: &impl Abort, alloc: Global, mark: u8, count: u16) -> Vec<Message> {
     let mut words = Vec::new(alloc);
     for number in 0..count {
-        words.push(numbered(rt, alloc, mark, number)).expect(rt, MEMORY);
+        words
+            .push(numbered(rt, alloc, mark, number))
+            .expect(rt, MEMORY);
     }
     words
 }
@@ -181,8 +185,14 @@ pub fn assert_fit(rt: &impl Abort, client: &Talker, server: &Talker) {
     assert!(rt; !client.end.is_over() && !server.end.is_over());
     let one = client.end.history();
     let other = server.end.history();
-    assert!(rt; are_sent(one, other), "the client took what the server sent");
-    assert!(rt; are_sent(other, one), "the server took what the client sent");
+    assert!(rt;
+        are_sent(one, other),
+        "the client took what the server sent"
+    );
+    assert!(rt;
+        are_sent(other, one),
+        "the server took what the client sent"
+    );
     assert!(rt; are_submitted(one, &client.words, client.said));
     assert!(rt; are_submitted(other, &server.words, server.said));
 }

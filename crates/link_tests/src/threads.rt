@@ -3,9 +3,7 @@
 ghost use Rattle.std.specs.Prelude.{◌≡◌};
 ghost use Rattle.link_ends.specs.Ends.{IsOf};
 
-use crate::talker::{
-    LAWFUL, MEMORY, Talker, are_first, are_same, assert_fit, meet_both, messages,
-};
+use crate::talker::{LAWFUL, MEMORY, Talker, are_first, are_same, assert_fit, meet_both, messages};
 use sim_adapter::Link;
 use smbd_base::{EndId, EndLimits};
 use smbd_outside::{Gate, OpenGate};
@@ -144,8 +142,14 @@ fn talk<R: Threads + Abort + Sync, G: Gate + Sync>(rt: &R, alloc: Global, gate: 
     let mut server = Talker::open(rt, alloc, EndId::Server, few, server_pass, words);
     hear_all_beside(rt, gate, &link, &mut client, &mut server);
     meet_both(rt, &link, &mut client, &mut server);
-    assert!(rt; are_same(&client.heard, &server.words), "what the client heard");
-    assert!(rt; are_same(&server.heard, &client.words), "what the server heard");
+    assert!(rt;
+        are_same(&client.heard, &server.words),
+        "what the client heard"
+    );
+    assert!(rt;
+        are_same(&server.heard, &client.words),
+        "what the server heard"
+    );
     assert!(rt; client.taken.saturating_add(server.taken) >= 1_000);
     assert_fit(rt, &client, &server);
 }

@@ -3,9 +3,7 @@
 ghost use Rattle.std.specs.Prelude.{◌≡◌};
 ghost use Rattle.link_ends.specs.Ends.{IsOf};
 
-use crate::talker::{
-    LAWFUL, MEMORY, Talker, are_first, are_same, assert_fit, meet_both, messages,
-};
+use crate::talker::{LAWFUL, MEMORY, Talker, are_first, are_same, assert_fit, meet_both, messages};
 use sim_adapter::Link;
 use smbd_base::{EndId, EndLimits};
 use smbd_outside::OpenGate;
@@ -64,7 +62,14 @@ fn go_on(
 }
 
 /// A run of two ends that say so many messages each, at this pace, until there is nothing more to do.
-fn arrive(rt: &impl Abort, alloc: Global, client: EndLimits, server: EndLimits, pace: Pace, count: u16) {
+fn arrive(
+    rt: &impl Abort,
+    alloc: Global,
+    client: EndLimits,
+    server: EndLimits,
+    pace: Pace,
+    count: u16,
+) {
     let (link, client_pass, server_pass) = Link::open(alloc, &client, &server).expect(rt, MEMORY);
     let words = messages(rt, alloc, b'C', count);
     let mut one = Talker::open(rt, alloc, EndId::Client, client, client_pass, words);

@@ -179,7 +179,10 @@ fn frames_cross_a_link_until_it_is_cut(rt: HostRuntime) {
     cross(&rt, &link, &mut client, &mut server, 27);
     server.cut(&rt, &link);
     client.submit(&rt, alloc, &link);
-    assert!(&rt; !client.emit(&rt, &link, 27), "a frame comes back once the link is cut");
+    assert!(&rt;
+        !client.emit(&rt, &link, 27),
+        "a frame comes back once the link is cut"
+    );
     assert!(&rt; matches!(client.take(&rt, &link), Came::Cut));
     client.cut(&rt, &link);
     meet(&link, &mut client, &mut server);
