@@ -12,11 +12,9 @@ use std::process::Abort;
 use std::sync::atomic::{AtomicU64, Ordering};
 use std::thread::{Threads, join_mut, yield_now};
 
-/// More turns than an end has in any of these runs, with those in which it found nothing to do.
-const TURNS: u32 = 20_000_000;
-
-/// More looks than an end has at the gate until the other has come.
-const LOOKS: u32 = 20_000_000;
+/// After so many turns in a row in which an end found nothing to do, it gives up. While it waits it lets others run, so these are
+/// seconds.
+const PATIENCE: u32 = 5_000_000;
 
 /// How many messages each end says.
 const COUNT: u16 = 400;
@@ -44,7 +42,7 @@ impl Abreast {
 
     /// Waits until the other end has come to its step of this number.
     fn wait(&self, other: &AtomicU64, step: u64) {
-        for _ in 0..LOOKS {
+        for _ in 0..PATIENCE {
             if other.load(Ordering::SeqCst) > step {
                 self.met.fetch_add(1, Ordering::SeqCst);
                 return;
@@ -73,6 +71,19 @@ struct Ready {
     count: AtomicU64,
 }
 
+/// An end has a turn, and counts how many in a row found nothing to do. After such a one it lets others run.
+fn turn<G: Gate>(rt: &impl Abort, gate: &G, link: &Link, talker: &mut Talker, idle: &mut u32)
+    requires own { IsOf link.now talker.old.end }
+    ensures own { IsOf link.now talker.new.end }
+{
+    if talker.turn(rt, gate, link) {
+        *idle = 0;
+    } else {
+        *idle = idle.saturating_add(1);
+        yield_now();
+    }
+}
+
 /// An end goes on until both have heard all. Answers whether it came to that.
 fn hear_all<G: Gate>(
     rt: &impl Abort,
@@ -84,17 +95,19 @@ fn hear_all<G: Gate>(
     requires own { IsOf link.now talker.old.end }
     ensures own { IsOf link.now talker.new.end }
 {
+    let mut idle = 0;
     let mut told = false;
-    for _ in 0..TURNS {
-        if !talker.turn(rt, gate, link) {
-            yield_now();
-        }
+    for _ in 0..u32::MAX {
+        turn(rt, gate, link, talker, &mut idle);
         if !told && talker.heard.len() == usize::from(COUNT) {
             ready.count.fetch_add(1, Ordering::SeqCst);
             told = true;
         }
         if told && ready.count.load(Ordering::SeqCst) == 2 {
             return true;
+        }
+        if idle == PATIENCE {
+            return false;
         }
     }
     false
@@ -171,16 +184,18 @@ fn talk_until_cut(rt: &impl Abort, link: &Link, talker: &mut Talker, heard: usiz
     requires own { IsOf link.now talker.old.end }
     ensures own { IsOf link.now talker.new.end }
 {
-    for _ in 0..TURNS {
-        if !talker.turn(rt, &OpenGate, link) {
-            yield_now();
-        }
+    let mut idle = 0;
+    for _ in 0..u32::MAX {
+        turn(rt, &OpenGate, link, talker, &mut idle);
         if talker.is_cut(rt) {
             return true;
         }
         if talker.heard.len() >= heard {
             talker.cut(rt, &OpenGate, link);
             return true;
+        }
+        if idle == PATIENCE {
+            return false;
         }
     }
     false
