@@ -199,10 +199,10 @@ pub fn assert_fit(rt: &impl Abort, client: &Talker, server: &Talker) {
 
 /// Both ends meet.
 pub fn meet_both(rt: &impl Abort, link: &Link, client: &mut Talker, server: &mut Talker)
-    requires own { IsOf link.now client.old.end }
-    requires own { IsOf link.now server.old.end }
-    ensures own { IsOf link.now client.new.end }
-    ensures own { IsOf link.now server.new.end }
+    requires client { IsOf link.now client.old.end }
+    requires server { IsOf link.now server.old.end }
+    ensures client { IsOf link.now client.new.end }
+    ensures server { IsOf link.now server.new.end }
 {
     assert!(rt; client.end.side() == EndId::Client);
     assert!(rt; server.end.side() == EndId::Server);
