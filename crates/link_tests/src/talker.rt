@@ -126,7 +126,8 @@ impl Talker {
         requires own { IsOf link.now self.old.end }
         ensures own { IsOf link.now self.new.end }
     {
-        assert!(rt; !self.is_cut(rt));
+        assert!(rt; !self.end.is_over());
+        assert!(rt; !self.end.is_cut());
         self.end.cut(gate, link);
     }
 
