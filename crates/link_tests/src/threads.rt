@@ -14,7 +14,7 @@ use std::thread::{Threads, join_mut, yield_now};
 
 /// After so many turns in a row in which an end found nothing to do, it gives up. While it waits it lets others run, so these are
 /// seconds.
-const PATIENCE: u32 = 5_000_000;
+const PATIENCE: u32 = 2_000_000;
 
 /// How many messages each end says.
 const COUNT: u16 = 400;
