@@ -81,7 +81,7 @@ made-all seats (l ∷ ls) each = made-append seats l (joined ls) (each 0 l refl)
 
 -- ---- the events of one pass, page by page
 
-events_by-append : (n : ℕ) (xs ys : Log) → events_by n (xs ++ ys) ≡ events_by n xs ++ events_by n ys
+pub events_by-append : (n : ℕ) (xs ys : Log) → events_by n (xs ++ ys) ≡ events_by n xs ++ events_by n ys
 events_by-append n [] ys = refl
 events_by-append n (x ∷ xs) ys = ⊎_elim
     (λ (here : x.pass ≡ n).

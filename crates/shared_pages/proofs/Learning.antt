@@ -18,20 +18,20 @@ ends-same older log e most = go e.0 e.1
 ends-refl : (l : Log) → Ends l l
 ends-refl l = ([], refl)
 
-ends-trans : (a b c : Log) → Ends a b → Ends b c → Ends a c
+pub ends-trans : (a b c : Log) → Ends a b → Ends b c → Ends a c
 ends-trans a b c x y = (y.0 ++ x.0, append_assoc y.0 x.0 a ∙ ap (λ (l : Log). y.0 ++ l) x.1 ∙ y.1)
 
-longer-by : (P : Log → Type 0) (a b : Log) → (length a ≤ length b → P b) → (length b < length a → P a) → P (longer a b)
+pub longer-by : (P : Log → Type 0) (a b : Log) → (length a ≤ length b → P b) → (length b < length a → P a) → P (longer a b)
 longer-by P a b short long = dite (dec_le (length a) (length b))
     (λ le. subst (λ (t : Bool). P (if t then b else a)) (sym (le-leb (length a) (length b) le)) (short le))
     (λ nle. let less : length b < length a = omega arith in subst (λ (t : Bool). P (if t then b else a)) (sym (lt-leb (length a) (length b) less)) (long less))
 
-longer-left : (a b : Log) → Ends a b ⊎ Ends b a → Ends a (longer a b)
+pub longer-left : (a b : Log) → Ends a b ⊎ Ends b a → Ends a (longer a b)
 longer-left a b c = longer-by (λ (l : Log). Ends a l) a b
     (λ le. ⊎_elim (λ (e : Ends a b). e) (λ (e : Ends b a). subst (λ (l : Log). Ends l b) (ends-same b a e le) (ends-refl b)) c)
     (λ less. ends-refl a)
 
-longer-right : (a b : Log) → Ends a b ⊎ Ends b a → Ends b (longer a b)
+pub longer-right : (a b : Log) → Ends a b ⊎ Ends b a → Ends b (longer a b)
 longer-right a b c = longer-by (λ (l : Log). Ends b l) a b
     (λ le. ends-refl b)
     (λ less. ⊎_elim (λ (e : Ends a b). let le = ends-short a b e in absurd (omega arith)) (λ (e : Ends b a). e) c)
@@ -39,7 +39,7 @@ longer-right a b c = longer-by (λ (l : Log). Ends b l) a b
 longer-same : (a b : Log) → Ends b a → longer a b ≡ a
 longer-same a b e = longer-by (λ (l : Log). l ≡ a) a b (λ le. ends-same b a e le) (λ less. refl)
 
-longer-again : (a b : Log) → longer b (longer a b) ≡ longer a b
+pub longer-again : (a b : Log) → longer b (longer a b) ≡ longer a b
 longer-again a b = longer-by (λ (l : Log). longer b l ≡ l) a b
     (λ le. longer-by (λ (l : Log). l ≡ b) b b (λ le. refl) (λ less. refl))
     (λ less. longer-by (λ (l : Log). l ≡ a) b a (λ le. refl) (λ other. absurd (omega arith)))

@@ -6,8 +6,10 @@ pub mod Learning
 pub mod Logs
 pub mod Making
 pub mod Meeting
+pub mod OnePast
 pub mod Opened
 pub mod Parts
 pub mod Passing
+pub mod Pasts
 pub mod StepAnswers
 pub mod Sweeping

@@ -112,7 +112,7 @@ between n a b l x y e =
     let none : made_by n y.0 ≡ [] = empty_of (made_by n y.0) (omega (arith, length-append (made_by n y.0) (made_by n b), length-append (made_by n x.0) (made_by n a))) in
     sym q ∙ ap (λ (z : Log). z ++ made_by n b) none
 
-one_longer : (n : ℕ) (a b l : Log) → Ends a l → Ends b l → made_by n l ≡ made_by n a → Ends (longer a b) l × (made_by n l ≡ made_by n (longer a b)) × (Ends a b ⊎ Ends b a)
+pub one_longer : (n : ℕ) (a b l : Log) → Ends a l → Ends b l → made_by n l ≡ made_by n a → Ends (longer a b) l × (made_by n l ≡ made_by n (longer a b)) × (Ends a b ⊎ Ends b a)
 one_longer n a b l x y e = dite (dec_le (length a) (length b))
     (λ le. let c = comparable a b l x y le in subst (λ (t : Bool). Ends (if t then b else a) l × (made_by n l ≡ made_by n (if t then b else a)) × (Ends a b ⊎ Ends b a)) (sym (le-leb (length a) (length b) le)) (y, between n a b l c y e, inl c))
     (λ nle. subst (λ (t : Bool). Ends (if t then b else a) l × (made_by n l ≡ made_by n (if t then b else a)) × (Ends a b ⊎ Ends b a)) (sym (lt-leb (length a) (length b) (omega arith))) (x, e, inr (comparable b a l y x (omega arith))))

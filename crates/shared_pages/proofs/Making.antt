@@ -14,6 +14,7 @@ use Rattle.shared_pages.specs.declared.view.Opening.{Opening}
 use Rattle.shared_pages.specs.declared.view.Sight.{Sight}
 use Rattle.shared_pages.specs.declared.view.View.{View}
 use Rattle.shared_pages.specs.Rule.{Slot, Log, Ends, made_by, events_on, AreWithin, IsMade, SightFits, Kept, Knows}
+use Rattle.shared_pages.proofs.Pasts.{events_of, older-past}
 use Rattle.shared_pages.proofs.Logs.{inside, there_is, same_length, end_at, seen_at}
 
 pub events_on-here : (page : ℕ) (e : PageEvent) (events : List PageEvent) → page_in e ≡ page → events_on page (e ∷ events) ≡ e ∷ events_on page events
@@ -47,17 +48,6 @@ module _ (n : ℕ) (made : List PageEvent) (logs : List Log) (p : ℕ) (e : Entr
     within = subst (λ (count : ℕ). AreWithin count made) (sym (length-set logs p (e ∷ l))) h.within;
   }
 
--- the events of a pass are those of its entries
-events_of : (n : ℕ) (l : Log) → events_by n l ≡ events_in (made_by n l)
-events_of n [] = refl
-events_of n (e ∷ l) = ⊎_elim
-    (λ (here : e.pass ≡ n).
-    events_by-here n e l here ∙ ap (λ (es : List PageEvent). e.event ∷ es) (events_of n l)
-    ∙ ap events_in (sym (cond-true _ (e ∷ made_by n l) (made_by n l) (eq-eqb e.pass n here))))
-    (λ (other : e.pass ≡ n → ⊥).
-    events_by-other n e l other ∙ events_of n l ∙ ap events_in (sym (cond-false _ (e ∷ made_by n l) (made_by n l) (ne_eqb e.pass n other))))
-    (cases_eq e.pass n)
-
 length-in : (l : Log) → length (events_in l) ≡ length l
 length-in [] = refl
 length-in (e ∷ l) = ap suc (length-in l)
@@ -87,7 +77,7 @@ older-made seats [] log made = made
 older-made seats (e ∷ newer) log made = older-made seats newer log made.1
 
 -- what a pass knows, by the rule
-pub knows : (pool : Opening) (s : State Slot View) (r : Kept pool s) (v : Sight) → SightFits pool.seats s.words r.logs v → Knows pool v
+pub knows : (pool : Opening) (s : State Slot View) (r : Kept pool s) (v : Sight) → SightFits pool.seats s.words r.logs r.past v → Knows pool v
 knows pool s r v fits =
     let same = same_length v.seen r.logs fits.seen in
     let log_at : (p : ℕ) (log : Log) → get_elem? v.seen p ≡ some log → (l : Log) × (get_elem? r.logs p ≡ some l) =
@@ -107,4 +97,7 @@ knows pool s r v fits =
             ∙ ap events_in (seen_at v.number v.seen r.logs p log l.0 fits.own x l.1) ∙ sym (events_of v.number log);
         within = subst (λ (count : ℕ). AreWithin count v.made) (sym same) fits.made.within;
       };
+      past = older-past pool v.past r.past fits.pasts.seen r.whole;
+      list = fits.pasts.list;
+      parts = fits.pasts.parts;
     }

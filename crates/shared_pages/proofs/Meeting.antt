@@ -14,25 +14,26 @@ use Rattle.shared_pages.specs.declared.view.View.TheVariants.{Spent, Rest, One, 
 use Rattle.shared_pages.specs.Rule.{Slot, Log, SightFits, ViewFits, IsHeld, Kept, learned, met, looked, new_sight}
 use Rattle.shared_pages.proofs.Logs.{longest_fits}
 use Rattle.shared_pages.proofs.Making.{knows}
+use Rattle.shared_pages.proofs.Pasts.{past-meets, past-begins}
 use Rattle.shared_pages.proofs.Holding.{reviewed, resighted, one_is, no_hold}
 
-pub copies : (pool : Opening) (id : ℕ) (v : Sight) → Splits (Kept pool) id (One v) (One v) (Copy v.seen)
-copies pool id v s r at = subst (λ (l : List View). Kept pool record { words = s.words; homes = s.homes; views = l ++ Copy v.seen ∷ [] }) (sym (set_again s.views id (One v) at))
-    (reviewed pool s r (s.views ++ Copy v.seen ∷ [])
-    (λ j u x. ⊎_elim (r.views j u) (λ (e : Copy v.seen ≡ u). subst (ViewFits pool.seats s.words r.logs) e (r.views id (One v) at).seen) (at_snoc s.views (Copy v.seen) u j x))
-    (λ j a x. ⊎_elim (λ (y : get_elem? s.views j ≡ some (One a)). (a, y, refl, refl)) (λ (e : Copy v.seen ≡ One a). absurd cc) (at_snoc s.views (Copy v.seen) (One a) j x))
-    (λ j k lists x. ⊎_elim (λ (y : get_elem? s.views j ≡ some (Rest k lists)). y) (λ (e : Copy v.seen ≡ Rest k lists). absurd cc) (at_snoc s.views (Copy v.seen) (Rest k lists) j x)))
+pub copies : (pool : Opening) (id : ℕ) (v : Sight) → Splits (Kept pool) id (One v) (One v) (Copy v.seen v.past)
+copies pool id v s r at = subst (λ (l : List View). Kept pool record { words = s.words; homes = s.homes; views = l ++ Copy v.seen v.past ∷ [] }) (sym (set_again s.views id (One v) at))
+    (reviewed pool s r (s.views ++ Copy v.seen v.past ∷ [])
+    (λ j u x. ⊎_elim (r.views j u) (λ (e : Copy v.seen v.past ≡ u). subst (ViewFits pool.seats s.words r.logs r.past) e ((r.views id (One v) at).seen, (r.views id (One v) at).pasts.seen, (r.views id (One v) at).pasts.parts)) (at_snoc s.views (Copy v.seen v.past) u j x))
+    (λ j a x. ⊎_elim (λ (y : get_elem? s.views j ≡ some (One a)). (a, y, refl, refl)) (λ (e : Copy v.seen v.past ≡ One a). absurd cc) (at_snoc s.views (Copy v.seen v.past) (One a) j x))
+    (λ j k lists x. ⊎_elim (λ (y : get_elem? s.views j ≡ some (Rest k lists)). y) (λ (e : Copy v.seen v.past ≡ Rest k lists). absurd cc) (at_snoc s.views (Copy v.seen v.past) (Rest k lists) j x)))
 
 spends : (pool : Opening) (s : State Slot View) (r : Kept pool s) (other : ℕ) → Kept pool record { words = s.words; homes = s.homes; views = set s.views other Spent }
 spends pool s r other = reviewed pool s r (set s.views other Spent)
-    (λ j u x. ⊎_elim (λ (t : (j ≡ other) × (Spent ≡ u)). subst (ViewFits pool.seats s.words r.logs) t.1 tt) (λ (t : (j ≢ other) × (get_elem? s.views j ≡ some u)). r.views j u t.1) (at_set s.views other j Spent u x))
+    (λ j u x. ⊎_elim (λ (t : (j ≡ other) × (Spent ≡ u)). subst (ViewFits pool.seats s.words r.logs r.past) t.1 tt) (λ (t : (j ≢ other) × (get_elem? s.views j ≡ some u)). r.views j u t.1) (at_set s.views other j Spent u x))
     (λ j a x. ⊎_elim (λ (t : (j ≡ other) × (Spent ≡ One a)). let e = t.1 in absurd cc) (λ (t : (j ≢ other) × (get_elem? s.views j ≡ some (One a))). (a, t.1, refl, refl)) (at_set s.views other j Spent (One a) x))
     (λ j k lists x. ⊎_elim (λ (t : (j ≡ other) × (Spent ≡ Rest k lists)). let e = t.1 in absurd cc) (λ (t : (j ≢ other) × (get_elem? s.views j ≡ some (Rest k lists))). t.1) (at_set s.views other j Spent (Rest k lists) x))
 
-pub joins : (pool : Opening) (id other : ℕ) (v : Sight) (c : List Log) → Joins (Kept pool) id (One v) other (Copy c) (One (record v { other = c })) Spent
-joins pool id other v c s r at ne there = let w : Sight = record v { other = c } in let mine = r.views id (One v) at in
-    let here : get_elem? s.views other ≡ some (Copy c) = sym (set_else s.views id other (One w) ne) ∙ there in
-    let r' = resighted pool s r id v w at (record { among = mine.among; made = mine.made; seen = mine.seen; other = r.views other (Copy c) here; own = mine.own; held = mine.held }) refl refl in
+pub joins : (pool : Opening) (id other : ℕ) (v : Sight) (c : List Log) (past : Log) → Joins (Kept pool) id (One v) other (Copy c past) (One (record v { other_past = past; other = c })) Spent
+joins pool id other v c past s r at ne there = let w : Sight = record v { other_past = past; other = c } in let mine = r.views id (One v) at in
+    let here : get_elem? s.views other ≡ some (Copy c past) = sym (set_else s.views id other (One w) ne) ∙ there in
+    let r' = resighted pool s r id v w at (record { among = mine.among; made = mine.made; pasts = record { seen = mine.pasts.seen; other = (r.views other (Copy c past) here).1; own = mine.pasts.own; list = mine.pasts.list; parts = mine.pasts.parts; other_parts = (r.views other (Copy c past) here).2 }; seen = mine.seen; other = (r.views other (Copy c past) here).0; own = mine.own; held = mine.held }) refl refl in
     spends pool record { words = s.words; homes = s.homes; views = set s.views id (One w) } r' other
 
 -- a pass learns what the other has seen
@@ -41,9 +42,11 @@ meets pool slots id v free s r wide at small =
     let mine = r.views id (One v) at in
     let f = longest_fits v.number v.seen v.other r.logs mine.seen mine.other mine.own in
     let w : Sight = learned v in
-    let fits : SightFits pool.seats s.words r.logs w = record {
+    let g = past-meets r.past v mine.pasts in
+    let fits : SightFits pool.seats s.words r.logs r.past w = record {
       among = mine.among;
       made = mine.made;
+      pasts = g.0;
       seen = f.0;
       other = mine.other;
       own = f.1;
@@ -54,7 +57,7 @@ meets pool slots id v free s r wide at small =
       tt,
       subst (λ (ws : List ℕ). Kept pool record { words = ws; homes = s.homes; views = set s.views id (One w) }) (sym (set-get_or s.words 0 0))
           (resighted pool s r id v w at fits refl refl),
-      (refl, f.2, knows pool s r w fits),
+      (refl, f.2, knows pool s r w fits, g.1),
     )
 
 -- a pass looks at the pool
@@ -112,14 +115,17 @@ module _ (pool : Opening) (id k : ℕ) (lists : List Log) (s : State Slot View) 
     words = r.words;
     homes = r.homes;
     all = r.all;
+    past = r.past;
+    whole = r.whole;
+    parts = r.parts;
     lawful = r.lawful;
     made = r.made;
     few = r.few;
     rests = r.rests;
     views = λ j u x. ⊎_elim
-        (λ (t : (j ≡ length rights) × (One made ≡ u)). subst (ViewFits pool.seats s.words r.logs) t.1 record { among = room; made = mine.2 k (le_refl k); seen = mine.0; other = mine.0; own = mine.1 k (le_refl k); held = tt })
+        (λ (t : (j ≡ length rights) × (One made ≡ u)). subst (ViewFits pool.seats s.words r.logs r.past) t.1 record { among = room; made = mine.2 k (le_refl k); pasts = past-begins r.past k lists (mine.3 k (le_refl k)) mine.4; seen = mine.0; other = mine.0; own = mine.1 k (le_refl k); held = tt })
         (λ (t : get_elem? rights j ≡ some u). ⊎_elim
-        (λ (w : (j ≡ id) × (Rest (k + 1) lists ≡ u)). subst (ViewFits pool.seats s.words r.logs) w.1 (mine.0, (λ n more. mine.1 n (omega arith)), (λ n more. mine.2 n (omega arith))))
+        (λ (w : (j ≡ id) × (Rest (k + 1) lists ≡ u)). subst (ViewFits pool.seats s.words r.logs r.past) w.1 (mine.0, (λ n more. mine.1 n (omega arith)), (λ n more. mine.2 n (omega arith)), (λ n more. mine.3 n (omega arith)), mine.4))
         (λ (w : (j ≢ id) × (get_elem? s.views j ≡ some u)). r.views j u w.1)
         (at_set s.views id j (Rest (k + 1) lists) u t))
         (last_or rights (One made) u j x);

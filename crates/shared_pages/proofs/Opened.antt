@@ -10,8 +10,9 @@ use Rattle.smbd_base.specs.PagesFit.{events_by}
 use Rattle.shared_pages.specs.declared.view.Opening.{Opening}
 use Rattle.shared_pages.specs.declared.view.View.{View}
 use Rattle.shared_pages.specs.declared.view.View.TheVariants.{Rest}
-use Rattle.shared_pages.specs.Rule.{Slot, Log, AllEnd, AllSeen, ViewFits, Kept}
+use Rattle.shared_pages.specs.Rule.{Slot, Log, Ends, AllEnd, AllSeen, ViewFits, Kept}
 use Rattle.shared_pages.proofs.Logs.{inside}
+use Rattle.shared_pages.proofs.Pasts.{no-past}
 
 no_lists : (n : ℕ) → AllEnd (replicate n []) (replicate n [])
 no_lists zero = tt
@@ -49,6 +50,9 @@ opens_well pool least seats = let n = pool.pages in record {
   words = length-replicate _ _;
   homes = length-map _ _ ∙ length-replicate _ _;
   all = length-replicate _ _;
+  past = [];
+  whole = no-past pool;
+  parts = λ p l e. of_replicate n p [] l e;
   lawful = λ p l e. subst (λ (z : Log). Rattle.smbd_base.specs.Pages.IsPageLife pool.first p z) (of_replicate n p [] l e) tt;
   made = λ p l e. subst (λ (z : Log). Rattle.smbd_base.specs.PagesFit.AreMadeBy pool.seats z) (of_replicate n p [] l e) tt;
   few = λ k p l e. subst (λ (z : Log). length (Rattle.shared_pages.specs.Rule.made_by k z) ≤ Rattle.shared_pages.specs.Rule.most_events) (of_replicate n p [] l e) (omega arith);
@@ -56,10 +60,12 @@ opens_well pool least seats = let n = pool.pages in record {
       let low : p < n = let a = inside (replicate n []) p l e in let b : length (replicate {A = Log} n []) ≡ n = length-replicate _ _ in omega arith in
       subst (λ (z : Log). Rattle.shared_pages.specs.Rule.Rests (replicate n 0) (map some (replicate n (Some (opened_page pool.first)))) pool.first p z) (of_replicate n p [] l e)
       (record { counted = at_replicate n p 0 low; lies = home_at n p (Some (opened_page pool.first)) low });
-  views = λ j u e. subst (ViewFits pool.seats (replicate n 0) (replicate n [])) (only_view _ u j e).1 (
+  views = λ j u e. subst (ViewFits pool.seats (replicate n 0) (replicate n []) []) (only_view _ u j e).1 (
     no_lists n,
     (λ k _. none_made k n),
     (λ k _. record { parts = λ p l x. ap (events_by k) (of_replicate n p [] l x); within = tt }),
+    (λ k _. refl),
+    (λ p l x. subst (λ (z : Log). Ends z []) (of_replicate n p [] l x) ([], refl)),
   );
   apart = λ i j a b x y e. absurd (let h = (only_view _ _ i x).1 in cc);
   one_holder = λ i j a b p x y f g. absurd (let h = (only_view _ _ i x).1 in cc);

@@ -1,5 +1,5 @@
 -- The first pass meets the others, one after the other.
-use Rattle.std.proofs.Common.{◌≡◌, ℕ, zero, suc, ◌+◌, ◌<◌, List, ◌∷◌, length, slice_index_or, slice_set, sym, refl, ap, ◌∙◌, subst, arith, ⊎_elim, map}
+use Rattle.std.proofs.Common.{◌≡◌, ℕ, zero, suc, ◌+◌, ◌<◌, List, [], ◌∷◌, length, slice_index_or, slice_set, sym, refl, ap, ◌∙◌, subst, arith, ⊎_elim, map}
 use Rattle.std.proofs.lemmas.Bool.{cases_eq}
 use Rattle.std.proofs.lemmas.List.{length-set, get_or_default, get_or-set_same, get_or-set_other}
 use Rattle.std.proofs.lemmas.List.Elements.{All-map}
@@ -8,11 +8,12 @@ use Rattle.shared_pages.specs.declared.pages.Pages.{Pages}
 use Rattle.shared_pages.specs.declared.page_pass.PagePass.{PagePass}
 use Rattle.shared_pages.specs.declared.view.Sight.{Sight}
 use Rattle.shared_pages.specs.Rule.{Log, AllEnd, AllCompare, longest, Knows}
-use Rattle.shared_pages.specs.Calls.{IsOf, MadeAsMuch, known_by, opening_of}
-use Rattle.shared_pages.specs.Meets.{AreAll, lists_made}
+use Rattle.shared_pages.specs.Calls.{IsOf, MadeAsMuch, PastsMet, known_by, opening_of}
+use Rattle.shared_pages.specs.Meets.{AreAll, HaveOnePast, lists_made}
 use Rattle.shared_pages.specs.Sweeps.{seen_by, HasMet, HaveMet, Swept, HaveMetFirst, HaveAllMet}
 use Rattle.shared_pages.proofs.Learning.{AllEnd-refl, AllEnd-trans, longest-left, longest-right, longest-same}
 use Rattle.shared_pages.proofs.Fitting.{met-fit}
+use Rattle.shared_pages.proofs.OnePast.{one-past}
 
 made-again : (a b c : Sight) → MadeAsMuch a b → MadeAsMuch b c → MadeAsMuch a c
 made-again a b c x y = record { number = y.number ∙ x.number; made = y.made ∙ x.made }
@@ -27,26 +28,30 @@ met-again pool a b c x y = record {
 
 -- what a meeting tells
 pub two-met : (pool : Pages) (one other now then : PagePass) → IsOf pool now × IsOf pool then
-    → seen_by now ≡ longest (seen_by one) (seen_by other) → seen_by then ≡ seen_by now
+    → (known_by now).seen ≡ longest (known_by one).seen (known_by other).seen → (known_by then).seen ≡ (known_by now).seen
     → MadeAsMuch (known_by one) (known_by now) × MadeAsMuch (known_by other) (known_by then)
-    → AllCompare (seen_by one) (seen_by other) → Knows (opening_of pool) (known_by now) × Knows (opening_of pool) (known_by then)
-    → HaveMet pool one other now then
-two-met pool one other now then own is even made compare knows = record {
-  first = record {
-    own = own.0;
-    made = made.0;
-    older = subst (AllEnd (seen_by one)) (sym is) (longest-left (seen_by one) (seen_by other) compare);
-    knows = knows.0;
-  };
-  second = record {
-    own = own.1;
-    made = made.1;
-    older = subst (AllEnd (seen_by other)) (sym is ∙ sym even) (longest-right (seen_by one) (seen_by other) compare);
-    knows = knows.1;
-  };
-  even = even;
-  still = λ less. is ∙ longest-same (seen_by one) (seen_by other) less;
-}
+    → AllCompare (known_by one).seen (known_by other).seen → PastsMet (known_by one) (known_by other) (known_by now) (known_by then)
+    → Knows (opening_of pool) (known_by now) × Knows (opening_of pool) (known_by then) → HaveMet pool one other now then
+two-met pool one other now then own seen even_seen made compare_seen pasts knows =
+    let is : seen_by now ≡ longest (seen_by one) (seen_by other) = λ i. pasts.first i ∷ seen i in
+    let even : seen_by then ≡ seen_by now = λ i. pasts.even i ∷ even_seen i in
+    let compare : AllCompare (seen_by one) (seen_by other) = (pasts.compare, compare_seen) in
+    record {
+      first = record {
+        own = own.0;
+        made = made.0;
+        older = subst (AllEnd (seen_by one)) (sym is) (longest-left (seen_by one) (seen_by other) compare);
+        knows = knows.0;
+      };
+      second = record {
+        own = own.1;
+        made = made.1;
+        older = subst (AllEnd (seen_by other)) (sym is ∙ sym even) (longest-right (seen_by one) (seen_by other) compare);
+        knows = knows.1;
+      };
+      even = even;
+      still = λ less. is ∙ longest-same (seen_by one) (seen_by other) less;
+    }
 
 pub none-swept : (pool : Pages) (one : PagePass) (olds : List PagePass) → IsOf pool one → Swept pool 0 one one olds olds
 none-swept pool one olds own = record {
@@ -118,7 +123,7 @@ swept-twice pool begun one mid now olds mids news same knows a b =
       first = record {
         own = b.own;
         made = subst (λ (v : Sight). MadeAsMuch v (known_by now)) same (made-again (known_by one) (known_by mid) (known_by now) a.made b.made);
-        older = subst (λ (v : Sight). AllEnd v.seen (seen_by now)) same (AllEnd-trans (seen_by one) (seen_by mid) (seen_by now) a.older b.older);
+        older = subst (λ (v : Sight). AllEnd (v.past ∷ v.seen) (seen_by now)) same (AllEnd-trans (seen_by one) (seen_by mid) (seen_by now) a.older b.older);
         knows = b.knows (a.knows knows);
       };
       met = λ i d low. met-again pool (slice_index_or olds i d) (slice_index_or mids i d) (slice_index_or news i d) (a.met i d low) (b.met i d (omega arith));
@@ -128,7 +133,8 @@ swept-twice pool begun one mid now olds mids news same knows a b =
 pub all-met : (pool : Pages) (one now : PagePass) (olds news : List PagePass) → HaveMetFirst pool one now olds news → HaveAllMet pool (one ∷ olds) (now ∷ news)
 all-met pool one now olds news h = record {
   count = ap suc h.count;
-  seen = seen_by now;
+  past = (known_by now).past;
+  seen = (known_by now).seen;
   met = λ i d low. met-at i d low;
   even = λ i d low. even-at i d low;
 }
@@ -141,10 +147,33 @@ all-met pool one now olds news h = record {
     even-at zero d low = refl
     even-at (suc i) d low = h.even i d (omega arith)
 
+-- no pass at all
+pub none-met : (pool : Pages) (passes : List PagePass) → length passes ≡ 0 → HaveAllMet pool passes passes
+none-met pool passes none = record {
+  count = refl;
+  past = [];
+  seen = [];
+  met = λ i d low. absurd (omega arith);
+  even = λ i d low. absurd (omega arith);
+}
+
+head_of : {a b : Log} {xs ys : List Log} → a ∷ xs ≡ b ∷ ys → a ≡ b
+head_of e = cc
+
+rest_of : {a b : Log} {xs ys : List Log} → a ∷ xs ≡ b ∷ ys → xs ≡ ys
+rest_of e = cc
+
 pub all-fit : (pool : Pages) (olds news : List PagePass) → HaveAllMet pool olds news
     → AreAll (opening_of pool) (map known_by news) → PagesFit (opening_of pool).first (lists_made (map known_by news))
 all-fit pool olds news h all =
     let long = h.count in
     met-fit (opening_of pool) h.seen (map known_by news) all
     (All-map (λ (v : Sight). Knows (opening_of pool) v) known_by news (λ i d low. (h.met i d (omega arith)).knows))
-    (All-map (λ (v : Sight). v.seen ≡ h.seen) known_by news (λ i d low. h.even i d (omega arith)))
+    (All-map (λ (v : Sight). v.seen ≡ h.seen) known_by news (λ i d low. rest_of (h.even i d (omega arith))))
+
+pub all-past : (pool : Pages) (olds news : List PagePass) → HaveAllMet pool olds news → HaveOnePast (opening_of pool) (map known_by news)
+all-past pool olds news h =
+    let long = h.count in
+    one-past (opening_of pool) h.past (map known_by news)
+    (All-map (λ (v : Sight). Knows (opening_of pool) v) known_by news (λ i d low. (h.met i d (omega arith)).knows))
+    (All-map (λ (v : Sight). v.past ≡ h.past) known_by news (λ i d low. head_of (h.even i d (omega arith))))

@@ -17,7 +17,7 @@ use Rattle.shared_pages.specs.declared.answers.Access.TheVariants as access
 use Rattle.smbd_base.specs.declared.right.Right.{Right}
 use Rattle.smbd_base.specs.declared.page_event.PageEvent.TheVariants as events
 use Rattle.shared_pages.specs.Answers.{load_answer, IfLoaded, OnRefused}
-use Rattle.shared_pages.specs.Rule.{Log, Sat, Ends, made_by, mark, most_events, sight_of, holding, new_sight}
+use Rattle.shared_pages.specs.Rule.{Log, Sat, Ends, Compare, IsPastAfter, made_by, mark, most_events, sight_of, holding, longer, new_sight}
 
 -- what a pass knows
 abbrev pub known_by : PagePass → Sight
@@ -63,11 +63,13 @@ pub record IsLifeAfter (first page : ℕ) (v : Sight) (log : Log) : Type 0 where
 pub record IsInHand (first page : ℕ) (old new : Sat) (count : ℕ) (content : PageState) : Type 0 where
   pub log : Log
   pub life : IsLifeAfter first page (sight_of old.0) log
-  pub seat : new ≡ (One (holding (sight_of old.0) page log), (page, None) ∷ [])
+  pub past : Log
+  pub after : IsPastAfter page (sight_of old.0) log past
+  pub seat : new ≡ (One (holding (sight_of old.0) page log past), (page, None) ∷ [])
   pub counted : count ≡ length log
   pub stands : content ≡ page_state first log
   pub countable : length log + 1 < mark
-  pub seen : HasSeen (holding (sight_of old.0) page log) page log
+  pub seen : HasSeen (holding (sight_of old.0) page log past) page log
   pub few : length (made_by (sight_of old.0).number log) ≤ length (sight_of old.0).made
 
 -- the page may be given back with the event
@@ -94,33 +96,49 @@ pub record MayLetGo (first page : ℕ) (me : Sat) (count : ℕ) (content : PageS
   pub stands : content ≡ page_state first log
   pub counted : count ≡ length log
 
--- what a pass knows once it has seen this of the page's life
-abbrev pub with_log : Sight → ℕ → Log → Sight
-with_log v page log = record v { seen = slice_set v.seen page log }
+-- what a pass knows once it has seen this of the page's life, and this past of all pages
+abbrev pub with_log : Sight → ℕ → Log → Log → Sight
+with_log v page log past = record v { past = past; seen = slice_set v.seen page log }
 
--- what it knows when it has made the event, after this life of the page
-abbrev pub with_event : Sight → ℕ → PageEvent → Log → Sight
-with_event v page event log = record v {
+-- what it knows when it has made the event, after this life of the page and this past of all pages
+abbrev pub with_event : Sight → ℕ → PageEvent → Log → Log → Sight
+with_event v page event log past = record v {
   made = event ∷ v.made;
+  past = (record { pass = v.number; event = event }) ∷ past;
   seen = slice_set v.seen page ((record { pass = v.number; event = event }) ∷ log);
 }
 
 -- What a load that isn't Busy tells its pass: it has seen the page's life up to the call, and the answer is that of the state
--- that this life leaves. Where the page was loaded, the life goes on with that step, else it stays.
+-- that this life leaves. Where the page was loaded, the life goes on with that step, else it stays; so does the past of all pages,
+-- of which the life is the page's part.
 pub record LoadTells (first page : ℕ) (right : Right) (bytes : List ℕ) (old new : Sight) (result : Load) : Type 0 where
   pub log : Log
   pub life : IsLifeAfter first page old log
+  pub past : Log
+  pub after : IsPastAfter page old log past
   pub most : (page_state first log).generation ≤ LAST_GENERATION
   pub answer : result ≡ load_answer page (page_state first log)
   pub loaded : IfLoaded result (λ token. IsPageStep (events.Load token right bytes) (page_state first log)
-      × (new ≡ with_event old page (events.Load token right bytes) log))
-  pub refused : OnRefused result (new ≡ with_log old page log)
+      × (new ≡ with_event old page (events.Load token right bytes) log past))
+  pub refused : OnRefused result (new ≡ with_log old page log past)
 
 -- The same for an access, whose event follows from the state that was found.
 pub record AccessTells (first page : ℕ) (event : PageState → PageEvent) (answer_at : PageState → Access) (old new : Sight) (result : Access) : Type 0 where
   pub log : Log
   pub life : IsLifeAfter first page old log
+  pub past : Log
+  pub after : IsPastAfter page old log past
   pub answer : result ≡ answer_at (page_state first log)
   pub done : result ≡ access.Done → IsPageStep (event (page_state first log)) (page_state first log)
-      × (new ≡ with_event old page (event (page_state first log)) log)
-  pub refused : result ≢ access.Done → new ≡ with_log old page log
+      × (new ≡ with_event old page (event (page_state first log)) log past)
+  pub refused : result ≢ access.Done → new ≡ with_log old page log past
+
+-- Two passes met: of their pasts one was an older part of the other, and both then have the longer one.
+pub record PastsMet (one other now then : Sight) : Type 0 where
+  pub compare : Compare one.past other.past
+  pub first : now.past ≡ longer one.past other.past
+  pub even : then.past ≡ now.past
+
+-- the pass made this event, and no other
+abbrev pub Makes : PageEvent → Sight → Sight → Type 0
+Makes event old new = new.made ≡ event ∷ old.made

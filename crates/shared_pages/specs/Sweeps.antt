@@ -1,13 +1,13 @@
 -- How the passes of a pool come to have seen the same.
-use Rattle.std.specs.Prelude.{◌≡◌, ℕ, ◌<◌, ◌≤◌, List, length, slice_index_or}
+use Rattle.std.specs.Prelude.{◌≡◌, ℕ, ◌<◌, ◌≤◌, List, ◌∷◌, length, slice_index_or}
 use Rattle.shared_pages.specs.declared.pages.Pages.{Pages}
 use Rattle.shared_pages.specs.declared.page_pass.PagePass.{PagePass}
 use Rattle.shared_pages.specs.Rule.{Log, AllEnd, Knows}
 use Rattle.shared_pages.specs.Calls.{IsOf, MadeAsMuch, known_by, opening_of}
 
--- what a pass has seen of the pages
+-- what a pass has seen: first the past of all pages, then of each page its part
 abbrev pub seen_by : PagePass → List Log
-seen_by pass = (known_by pass).seen
+seen_by pass = (known_by pass).past ∷ (known_by pass).seen
 
 -- the pass has met others: it knows at least what it knew, and has made the same
 pub record HasMet (pool : Pages) (old new : PagePass) : Type 0 where
@@ -43,9 +43,10 @@ pub record HaveMetFirst (pool : Pages) (one now : PagePass) (olds news : List Pa
   pub met : (i : ℕ) (d : PagePass) → i < length olds → HasMet pool (slice_index_or olds i d) (slice_index_or news i d)
   pub even : (i : ℕ) (d : PagePass) → i < length olds → seen_by (slice_index_or news i d) ≡ seen_by now
 
--- all passes have met, and have seen the same
+-- all passes have met, and have seen the same: of all pages this past, and of each page this part
 pub record HaveAllMet (pool : Pages) (olds news : List PagePass) : Type 0 where
   pub count : length news ≡ length olds
+  pub past : Log
   pub seen : List Log
   pub met : (i : ℕ) (d : PagePass) → i < length olds → HasMet pool (slice_index_or olds i d) (slice_index_or news i d)
-  pub even : (i : ℕ) (d : PagePass) → i < length olds → seen_by (slice_index_or news i d) ≡ seen
+  pub even : (i : ℕ) (d : PagePass) → i < length olds → seen_by (slice_index_or news i d) ≡ past ∷ seen

@@ -29,3 +29,11 @@ pub enum Access {
     /// Another thread has the page in hand.
     Busy,
 }
+
+/// What came of a place, with its order.
+#[derive(Clone, Copy, Debug, PartialEq, Eq)]
+pub struct Placed {
+    pub answer: Access,
+    /// Where the place was done, how many places its token had had before, from 0 to 65,534; else 0.
+    pub order: u16,
+}

@@ -4,15 +4,15 @@ ghost use Rattle.std.specs.Prelude.{◌≡◌, ◌≢◌, ℕ, ◌<◌, ◌+◌,
 ghost use mathlib.Core.Option.{some};
 ghost use lib.ListN.{get_elem?};
 ghost use Rattle.smbd_base.specs.declared.token.TheConstants.{PAGE_SIZE, LAST_GENERATION};
-ghost use Rattle.shared_pages.specs.Rule.{new_sight, Log, sight_of, gave, let_go, refused, longest, AllCompare, Knows};
-ghost use Rattle.shared_pages.specs.Calls.{AreNew, MadeAsMuch, known_by, MayMake, LoadTells, AccessTells, IsOf, IsInHand, MayGive, MayLetGo, opening_of};
+ghost use Rattle.shared_pages.specs.Rule.{new_sight, sight_of, HasGiven, let_go, refused, longest, longer, Compare, AllCompare, Knows};
+ghost use Rattle.shared_pages.specs.Calls.{AreNew, MadeAsMuch, known_by, MayMake, LoadTells, AccessTells, Makes, IsOf, IsInHand, MayGive, MayLetGo, PastsMet, opening_of};
 ghost use Rattle.smbd_base.specs.declared.page_event.PageEvent.TheVariants as events;
 ghost use Rattle.shared_pages.specs.Answers.{fetch_answer, place_answer, unload_answer, places_had};
 ghost use Rattle.shared_pages.specs.declared.view.Hold.TheVariants.{Free};
 ghost use Rattle.shared_pages.specs.declared.view.View.TheVariants.{One, Rest};
 ghost use Rattle.smbd_base.specs.Pages.{opened_page};
 
-use crate::answers::{Access, Load};
+use crate::answers::{Access, Load, Placed};
 use crate::page_pass::{PagePass, Passes};
 use crate::pages::Pages;
 use crate::plays::{Copies, Deals, Does, Gives, Holds, Joins, LetsGo, Looks, Meet, Opens, Order};
@@ -142,7 +142,7 @@ impl Pages {
         requires own { (seat.old.table_id ≡ self.now.table.shared.table_id) × (page < (opening_of self.now).pages) }
         requires may { MayGive (opening_of self.now).first page J.event seat.old.me count slot }
         ensures own { seat.new.table_id ≡ seat.old.table_id }
-        ensures given { (l : Log) → get_elem? (sight_of seat.old.me.0).seen page ≡ some l → seat.new.me ≡ (One (gave (sight_of seat.old.me.0) page J.event l), []) }
+        ensures given { HasGiven J.event page seat.old.me seat.new.me }
     {
         let shared = &self.table.shared;
         drop(shared.exchange(seat, page, Some(slot)));
@@ -246,26 +246,46 @@ impl Pages {
         ensures few { length (known_by pass.new).made ≤ length (known_by pass.old).made + 1 }
         ensures tells { result ≢ Access.Busy → AccessTells (opening_of self.now).first token.page (λ s. events.Place token (places_had s.loaded) at bytes.now) (place_answer token) (known_by pass.old) (known_by pass.new) result }
     {
+        self.place_in_order(pass, token, at, bytes).answer
+    }
+
+    /// The same, and tells which order the place had under its token.
+    pub fn place_in_order(&self, pass: &mut PagePass, token: Token, at: u32, bytes: &[u8]) -> Placed
+        requires own { IsOf self.now pass.old }
+        requires among { token.page < (opening_of self.now).pages }
+        requires some { 1 ≤ length bytes.now }
+        requires within { at + length bytes.now ≤ PAGE_SIZE }
+        requires few { MayMake (known_by pass.old) }
+        ensures own { IsOf self.now pass.new }
+        ensures busy { result.answer ≡ Access.Busy → known_by pass.new ≡ refused (known_by pass.old) }
+        ensures few { length (known_by pass.new).made ≤ length (known_by pass.old).made + 1 }
+        ensures tells { result.answer ≢ Access.Busy → AccessTells (opening_of self.now).first token.page (λ s. events.Place token (places_had s.loaded) at bytes.now) (place_answer token) (known_by pass.old) (known_by pass.new) result.answer }
+        ensures order { result.answer ≡ Access.Done → Makes (events.Place token result.order at bytes.now) (known_by pass.old) (known_by pass.new) }
+        ensures none { result.answer ≢ Access.Done → result.order ≡ 0 }
+    {
         let place = usize::from(token.page());
         let Some((count, mut slot)) = self.hold::<Brand>(&mut pass.seat, place) else {
-            return Access::Busy;
+            return Placed {
+                answer: Access::Busy,
+                order: 0,
+            };
         };
         let answer = slot.may_place(token);
         if answer != Access::Done {
             self.let_go(&mut pass.seat, place, count, slot);
-            return answer;
+            return Placed { answer, order: 0 };
         }
-        let order = u32::from(slot.places_had());
+        let order = slot.places_had();
         slot.place(token, at, bytes);
         self.give_back::<Brand>(
             &mut pass.seat,
             place,
             count,
             slot,
-            Step::Place(token, order, at),
+            Step::Place(token, u32::from(order), at),
             bytes,
         );
-        Access::Done
+        Placed { answer, order }
     }
 
     /// Hands out the 4,096 bytes of the token's page, and ends its load. The refusals are looked for in this order: Busy,
@@ -301,9 +321,15 @@ impl Pages {
         requires opening { J.opening ≡ opening_of self.now }
         requires own { IsOf self.now one.old × IsOf self.now other.old }
         ensures own { (one.new.seat.table_id ≡ one.old.seat.table_id) × (other.new.seat.table_id ≡ other.old.seat.table_id) }
-        ensures one { sight_of one.new.seat.me.0 ≡ record (sight_of one.old.seat.me.0) { seen = longest (sight_of one.old.seat.me.0).seen (sight_of other.old.seat.me.0).seen; other = (sight_of other.old.seat.me.0).seen } }
+        ensures one { sight_of one.new.seat.me.0 ≡ record (sight_of one.old.seat.me.0) {
+          past = longer (sight_of one.old.seat.me.0).past (sight_of other.old.seat.me.0).past;
+          other_past = (sight_of other.old.seat.me.0).past;
+          seen = longest (sight_of one.old.seat.me.0).seen (sight_of other.old.seat.me.0).seen;
+          other = (sight_of other.old.seat.me.0).seen;
+        } }
         ensures other { sight_of other.new.seat.me.0 ≡ sight_of other.old.seat.me.0 }
         ensures compare { AllCompare (sight_of one.old.seat.me.0).seen (sight_of other.old.seat.me.0).seen }
+        ensures compare_pasts { Compare (sight_of one.old.seat.me.0).past (sight_of other.old.seat.me.0).past }
         ensures knows { Knows J.opening (sight_of one.new.seat.me.0) }
     {
         let shared = &self.table.shared;
@@ -323,8 +349,8 @@ impl Pages {
         self.table.shared.load::<Looks<J>>(&mut pass.seat, 0);
     }
 
-    /// Each of two passes has then seen all that either saw, and of each page one's list goes on where the other's ends. It
-    /// leaves the pages, and what each pass has made of them, as they were.
+    /// Each of two passes has then seen all that either saw, and of each page one's list goes on where the other's ends; so
+    /// does the past of all pages. It leaves the pages, and what each pass has made of them, as they were.
     pub fn meet(&self, one: &mut PagePass, other: &mut PagePass)
         requires { IsOf self.now one.old × IsOf self.now other.old }
         ensures own { IsOf self.now one.new × IsOf self.now other.new }
@@ -332,6 +358,7 @@ impl Pages {
         ensures other { (known_by other.new).seen ≡ (known_by one.new).seen }
         ensures same { MadeAsMuch (known_by one.old) (known_by one.new) × MadeAsMuch (known_by other.old) (known_by other.new) }
         ensures compare { AllCompare (known_by one.old).seen (known_by other.old).seen }
+        ensures pasts { PastsMet (known_by one.old) (known_by other.old) (known_by one.new) (known_by other.new) }
         ensures knows { Knows (opening_of self.now) (known_by one.new) × Knows (opening_of self.now) (known_by other.new) }
     {
         self.learn::<Brand>(one, other);

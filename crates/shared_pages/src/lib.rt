@@ -14,8 +14,8 @@ mod slot;
 mod sweeps;
 mod view;
 
-pub use answers::{Access, Load};
-pub use laws::{answers_follow_the_steps, passes_that_met_fit};
+pub use answers::{Access, Load, Placed};
+pub use laws::{answers_follow_the_steps, passes_that_met_fit, passes_that_met_have_one_past};
 pub use page_pass::{PagePass, Passes};
 pub use pages::Pages;
 pub use sweeps::meet_all;

@@ -4,7 +4,7 @@ ghost use Rattle.std.specs.Prelude.{◌≡◌, length, map, All};
 ghost use Rattle.smbd_base.specs.PagesFit.{PagesFit};
 ghost use Rattle.shared_pages.specs.Rule.{Knows};
 ghost use Rattle.shared_pages.specs.Calls.{IsOf, known_by, opening_of};
-ghost use Rattle.shared_pages.specs.Meets.{AreAll, lists_made};
+ghost use Rattle.shared_pages.specs.Meets.{AreAll, HaveOnePast, lists_made};
 ghost use Rattle.shared_pages.specs.Sweeps.{HaveMet, Swept, HaveMetFirst, HaveAllMet};
 
 use crate::page_pass::PagePass;
@@ -41,11 +41,13 @@ fn sweep_twice(pages: &Pages, first: &mut PagePass, rest: &mut [PagePass])
 }
 
 /// Each of these passes has then seen all that any of them saw, and has made no more. Where they are all passes of the pool, the
-/// lists of the events that they made fit together.
+/// lists of the events that they made fit together. All events of all pages have one past, which each of them has seen, and of
+/// which each made its entries.
 pub fn meet_all(pages: &Pages, passes: &mut [PagePass])
     requires { All (λ p. IsOf pages.now p) passes.old }
     ensures met { HaveAllMet pages.now passes.old passes.new }
     ensures fit { AreAll (opening_of pages.now) (map known_by passes.new) → PagesFit (opening_of pages.now).first (lists_made (map known_by passes.new)) }
+    ensures past { HaveOnePast (opening_of pages.now) (map known_by passes.new) }
 {
     if let Some((first, rest)) = passes.split_first_mut() {
         sweep_twice(pages, first, rest);

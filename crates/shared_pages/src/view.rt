@@ -38,9 +38,13 @@ pub struct Sight {
     pub number: u8,
     /// The events that the pass made, the newest one first.
     pub made: LinkedList<PageEvent>,
+    /// The past of all pages that was seen, the newest entry first.
+    pub past: LinkedList<Made>,
     /// Of each page, the entries that were seen, the newest one first.
     pub seen: LinkedList<LinkedList<Made>>,
-    /// What another pass has seen, where the two meet.
+    /// What another pass has seen of the past of all pages, where the two meet.
+    pub other_past: LinkedList<Made>,
+    /// What it has seen of each page.
     pub other: LinkedList<LinkedList<Made>>,
     pub hold: Hold,
     /// How often a swap of its own showed a page in the hands of another pass.
@@ -52,8 +56,8 @@ pub enum View {
     /// The right to make the passes from this number on, none of which has made an entry, and a list for each page.
     Rest(u8, LinkedList<LinkedList<Made>>),
     One(Sight),
-    /// A copy of what a pass has seen.
-    Copy(LinkedList<LinkedList<Made>>),
+    /// A copy of what a pass has seen of each page, and of the past of all pages.
+    Copy(LinkedList<LinkedList<Made>>, LinkedList<Made>),
 }
 
 /// A step of a page: its event without the bytes.

@@ -9,7 +9,7 @@ use Rattle.shared_pages.specs.declared.view.Sight.{Sight}
 use Rattle.shared_pages.specs.declared.answers.Access.{Access}
 use Rattle.shared_pages.specs.declared.answers.Access.TheVariants as accesses
 use Rattle.shared_pages.specs.Answers.{fetch_answer, place_answer, places_had}
-use Rattle.shared_pages.specs.Calls.{AccessTells}
+use Rattle.shared_pages.specs.Calls.{AccessTells, Makes}
 use Rattle.shared_records.specs.declared.record.Record.{Record}
 use Rattle.shared_records.specs.declared.answers.Claimed.TheVariants as claims
 use Rattle.shared_records.specs.Records.{IsInPage, HoldView}
@@ -124,3 +124,9 @@ ReadTells first pages descriptor got old new remote =
 abbrev pub WriteTells : ℕ → ℕ → Descriptor → List ℕ → Sight → Sight → Remote → Type 0
 WriteTells first pages descriptor bytes old new remote =
     IsLeft pages descriptor old new remote ⊎ WritesHeld first pages descriptor bytes old new remote
+
+-- a write that was done made a place of this order, by the descriptor's token and at the descriptor's place in its page
+pub record WritesInOrder (pages order : ℕ) (descriptor : Descriptor) (bytes : List ℕ) (old new : Sight) : Type 0 where
+  pub token : PageToken
+  pub known : token_known pages descriptor ≡ Some token
+  pub makes : Makes (events.Place token order (place_in_page token.page descriptor) bytes) old new

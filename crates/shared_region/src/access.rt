@@ -4,12 +4,13 @@ ghost use Rattle.std.specs.Prelude.{◌≡◌, ◌≢◌, ◌↔◌, ◌+◌, �
 ghost use Rattle.smbd_base.specs.declared.token.TheConstants.{PAGE_SIZE};
 ghost use Rattle.smbd_base.specs.Tokens.{number_of};
 ghost use Rattle.buffer_descriptor.specs.Descriptors.{IsSound, IsCovered};
-ghost use Rattle.shared_pages.specs.Calls.{known_by, opening_of, IsOf, MayMake};
+ghost use Rattle.smbd_base.specs.declared.page_event.PageEvent.TheVariants as events;
+ghost use Rattle.shared_pages.specs.Calls.{known_by, opening_of, IsOf, MayMake, Makes};
 ghost use Rattle.shared_records.specs.Records.{IsInPage};
 ghost use Rattle.shared_region.specs.Covers.{place_in_page, record_refusal};
-ghost use Rattle.shared_region.specs.Accesses.{token_known, of_access, IsRefusal, HoldsRecord, ReadsUnder, WritesUnder, ReadsPage, WritesPage, Reads, Writes, ReadTells, WriteTells};
+ghost use Rattle.shared_region.specs.Accesses.{token_known, of_access, IsRefusal, HoldsRecord, ReadsUnder, WritesUnder, ReadsPage, WritesPage, Reads, Writes, WritesInOrder, ReadTells, WriteTells};
 
-use crate::answers::Remote;
+use crate::answers::{Remote, Written};
 use crate::region::Region;
 use buffer_descriptor::{Descriptor, covers};
 use shared_pages::{Access, PagePass};
@@ -90,6 +91,16 @@ fn fetch_under(
     remote_of(region.fetch(pass, entry.token, at, out))
 }
 
+/// Nothing was written.
+fn unwritten(refused: Remote) -> Written
+    ensures { result ≡ record { answer = refused; order = 0 } }
+{
+    Written {
+        answer: refused,
+        order: 0,
+    }
+}
+
 /// Places under a held record.
 fn place_under(
     region: &Region,
@@ -97,7 +108,7 @@ fn place_under(
     entry: &Record,
     descriptor: &Descriptor,
     bytes: &[u8],
-) -> Remote
+) -> Written
     requires own { IsOf region.now.pages pass.old }
     requires page { entry.now.token.page < 256 }
     requires among { entry.now.token.page < (opening_of region.now.pages).pages }
@@ -109,15 +120,21 @@ fn place_under(
     ensures own { IsOf region.now.pages pass.new }
     ensures few { length (known_by pass.new).made ≤ length (known_by pass.old).made + 1 }
     ensures tells { WritesUnder (opening_of region.now.pages).first entry.now descriptor.now bytes.now (known_by pass.old) (known_by pass.new)
-        (record_refusal entry.now Right.Place descriptor.now) result }
-    ensures done { result ≡ Remote.Done → WritesPage (opening_of region.now.pages).first entry.now descriptor.now bytes.now (known_by pass.old) (known_by pass.new) }
-    ensures known { result ≢ Remote.Unknown }
+        (record_refusal entry.now Right.Place descriptor.now) result.answer }
+    ensures done { result.answer ≡ Remote.Done → WritesPage (opening_of region.now.pages).first entry.now descriptor.now bytes.now (known_by pass.old) (known_by pass.new) }
+    ensures order { result.answer ≡ Remote.Done → Makes (events.Place entry.now.token result.order (place_in_page entry.now.token.page descriptor.now) bytes.now) (known_by pass.old) (known_by pass.new) }
+    ensures none { result.answer ≢ Remote.Done → result.order ≡ 0 }
+    ensures known { result.answer ≢ Remote.Unknown }
 {
     if let Some(refused) = refusal(entry, Right::Place, descriptor) {
-        return refused;
+        return unwritten(refused);
     }
     let at = place_of(entry, descriptor);
-    remote_of(region.place(pass, entry.token, at, bytes))
+    let placed = region.place_in_order(pass, entry.token, at, bytes);
+    Written {
+        answer: remote_of(placed.answer),
+        order: placed.order,
+    }
 }
 
 /// The hold of the record that a descriptor's token names, or why there is none.
@@ -182,11 +199,33 @@ pub fn write_to(
     ensures done { result ≡ Remote.Done → Writes (opening_of region.now.pages).first (opening_of region.now.pages).pages descriptor.now bytes.now (known_by pass.old) (known_by pass.new) }
     ensures tells { WriteTells (opening_of region.now.pages).first (opening_of region.now.pages).pages descriptor.now bytes.now (known_by pass.old) (known_by pass.new) result }
 {
+    write_in_order(region, pass, descriptor, bytes).answer
+}
+
+/// The same, and tells which order its place had under the descriptor's token.
+pub fn write_in_order(
+    region: &Region,
+    pass: &mut PagePass,
+    descriptor: &Descriptor,
+    bytes: &[u8],
+) -> Written
+    requires own { IsOf region.now.pages pass.old }
+    requires sound { IsSound descriptor.now }
+    requires size { length bytes.now ≡ descriptor.now.length }
+    requires few { MayMake (known_by pass.old) }
+    ensures own { IsOf region.now.pages pass.new }
+    ensures few { length (known_by pass.new).made ≤ length (known_by pass.old).made + 1 }
+    ensures unknown { result.answer ≡ Remote.Unknown ↔ (token_known (opening_of region.now.pages).pages descriptor.now ≡ None) }
+    ensures done { result.answer ≡ Remote.Done → Writes (opening_of region.now.pages).first (opening_of region.now.pages).pages descriptor.now bytes.now (known_by pass.old) (known_by pass.new) }
+    ensures tells { WriteTells (opening_of region.now.pages).first (opening_of region.now.pages).pages descriptor.now bytes.now (known_by pass.old) (known_by pass.new) result.answer }
+    ensures order { result.answer ≡ Remote.Done → WritesInOrder (opening_of region.now.pages).pages result.order descriptor.now bytes.now (known_by pass.old) (known_by pass.new) }
+    ensures none { result.answer ≢ Remote.Done → result.order ≡ 0 }
+{
     let hold = match held(region, descriptor) {
         Ok(hold) => hold,
-        Err(refused) => return refused,
+        Err(refused) => return unwritten(refused),
     };
-    let remote = place_under(region, pass, hold.shown(), descriptor, bytes);
+    let written = place_under(region, pass, hold.shown(), descriptor, bytes);
     region.leave(hold);
-    remote
+    written
 }

@@ -60,3 +60,11 @@ pub enum Remote {
     /// Others changed the record's place meanwhile: it was seen as one word, and found as another.
     Again { seen: u64, found: u64 },
 }
+
+/// What came of a remote write, with the order of its place.
+#[derive(Clone, Copy, Debug, PartialEq, Eq)]
+pub struct Written {
+    pub answer: Remote,
+    /// Where the write was done, how many places the descriptor's token had had before, from 0 to 65,534; else 0.
+    pub order: u16,
+}

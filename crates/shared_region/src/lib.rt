@@ -7,6 +7,6 @@ mod access;
 mod answers;
 mod region;
 
-pub use access::{read_from, write_to};
-pub use answers::{Register, Release, Remote};
+pub use access::{read_from, write_in_order, write_to};
+pub use answers::{Register, Release, Remote, Written};
 pub use region::Region;

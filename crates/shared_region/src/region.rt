@@ -5,8 +5,8 @@ ghost use Rattle.smbd_base.specs.declared.token.TheConstants.{PAGE_SIZE, LAST_GE
 ghost use Rattle.smbd_base.specs.declared.page_event.PageEvent.TheVariants as events;
 ghost use Rattle.shared_pages.specs.Answers.{fetch_answer, place_answer, unload_answer, places_had};
 ghost use Rattle.shared_pages.specs.Rule.{longest, AllCompare, Knows, refused};
-ghost use Rattle.shared_pages.specs.Calls.{AreNew, known_by, opening_of, IsOf, MadeAsMuch, MayMake, AccessTells};
-ghost use Rattle.shared_pages.specs.Meets.{AreAll, lists_made};
+ghost use Rattle.shared_pages.specs.Calls.{AreNew, known_by, opening_of, IsOf, MadeAsMuch, PastsMet, MayMake, AccessTells, Makes};
+ghost use Rattle.shared_pages.specs.Meets.{AreAll, HaveOnePast, lists_made};
 ghost use Rattle.shared_pages.specs.Sweeps.{HaveAllMet};
 ghost use Rattle.smbd_base.specs.PagesFit.{PagesFit};
 ghost use Rattle.shared_records.specs.Records.{IsInPage};
@@ -15,7 +15,7 @@ ghost use Rattle.shared_region.specs.Regions.{record_of, RegisterTells, ReleaseT
 
 use crate::answers::{Register, Release};
 use buffer_descriptor::Descriptor;
-use shared_pages::{Access, Load, PagePass, Pages, Passes};
+use shared_pages::{Access, Load, PagePass, Pages, Passes, Placed};
 use shared_records::{Claimed, Hold, Issue, Record, TokenTable, Withdraw};
 use smbd_base::{NoMemory, Right, Token};
 use std::alloc::Global;
@@ -200,7 +200,24 @@ impl Region {
         ensures busy { result ≡ Access.Busy → known_by pass.new ≡ refused (known_by pass.old) }
         ensures tells { result ≢ Access.Busy → AccessTells (opening_of self.now.pages).first token.page (λ s. events.Place token (places_had s.loaded) at bytes.now) (place_answer token) (known_by pass.old) (known_by pass.new) result }
     {
-        self.pages.place(pass, token, at, bytes)
+        self.place_in_order(pass, token, at, bytes).answer
+    }
+
+    /// The same, and tells which order the place had under its token, as `Pages::place_in_order`.
+    pub fn place_in_order(&self, pass: &mut PagePass, token: Token, at: u32, bytes: &[u8]) -> Placed
+        requires own { IsOf self.now.pages pass.old }
+        requires among { token.page < (opening_of self.now.pages).pages }
+        requires some { 1 ≤ length bytes.now }
+        requires within { at + length bytes.now ≤ PAGE_SIZE }
+        requires few { MayMake (known_by pass.old) }
+        ensures own { IsOf self.now.pages pass.new }
+        ensures few { length (known_by pass.new).made ≤ length (known_by pass.old).made + 1 }
+        ensures busy { result.answer ≡ Access.Busy → known_by pass.new ≡ refused (known_by pass.old) }
+        ensures tells { result.answer ≢ Access.Busy → AccessTells (opening_of self.now.pages).first token.page (λ s. events.Place token (places_had s.loaded) at bytes.now) (place_answer token) (known_by pass.old) (known_by pass.new) result.answer }
+        ensures order { result.answer ≡ Access.Done → Makes (events.Place token result.order at bytes.now) (known_by pass.old) (known_by pass.new) }
+        ensures none { result.answer ≢ Access.Done → result.order ≡ 0 }
+    {
+        self.pages.place_in_order(pass, token, at, bytes)
     }
 
     /// Tells each of two passes what the other has seen, as `Pages::meet`.
@@ -211,17 +228,20 @@ impl Region {
         ensures other { (known_by other.new).seen ≡ (known_by one.new).seen }
         ensures same { MadeAsMuch (known_by one.old) (known_by one.new) × MadeAsMuch (known_by other.old) (known_by other.new) }
         ensures compare { AllCompare (known_by one.old).seen (known_by other.old).seen }
+        ensures pasts { PastsMet (known_by one.old) (known_by other.old) (known_by one.new) (known_by other.new) }
         ensures knows { Knows (opening_of self.now.pages) (known_by one.new) × Knows (opening_of self.now.pages) (known_by other.new) }
     {
         self.pages.meet(one, other);
     }
 
     /// Tells each of these passes what any of them has seen. Where they are all passes of the region, the lists of the events
-    /// that they made fit together.
+    /// that they made fit together. All events of all pages have one past, which each of them has seen, and of which each made
+    /// its entries.
     pub fn meet_all(&self, passes: &mut [PagePass])
         requires { All (λ p. IsOf self.now.pages p) passes.old }
         ensures met { HaveAllMet self.now.pages passes.old passes.new }
         ensures fit { AreAll (opening_of self.now.pages) (map known_by passes.new) → PagesFit (opening_of self.now.pages).first (lists_made (map known_by passes.new)) }
+        ensures past { HaveOnePast (opening_of self.now.pages) (map known_by passes.new) }
     {
         shared_pages::meet_all(&self.pages, passes);
     }

@@ -19,17 +19,19 @@ swap-found-requires g c = let k = c.args.self.now.table.shared.key in let n = c.
 )
 
 pub exchange-requires : goal.exchange-requires
-exchange-requires g c = let looked = c.swap-found.ensures.2.1 (search rules) in let there = ap (λ (m : Sat). m.1) looked.1 in
+exchange-requires g c = let looked = c.swap-found.ensures.2.1 (search rules) in let there = ap (λ (m : Sat). m.1) looked.2 in
     (search rules, (Some (page_state g.J.Opens.opening.first looked.0), there ∙ (λ i. (c.args.page, Some (page_state g.J.Opens.opening.first looked.0)) ∷ rest (sym there i))))
 
 pub returns-clause-held : goal.returns-clause-held
 returns-clause-held g c = let looked = c.swap-found.ensures.2.1 (search rules) in record {
   log = looked.0;
-  life = record { lawful = looked.3; extends = λ older h. (looked.4 older h).0; own = λ older h. (looked.4 older h).1 };
-  seat = c.exchange.ensures.3 ∙ (λ i. ((looked.1 i).0, (c.args.page, None) ∷ rest (looked.1 i).1));
-  counted = looked.2;
-  stands = taken_out _ _ _ _ _ _ _ c.exchange.ensures.2 (ap (λ (m : Sat). m.1) looked.1) (search rules);
-  countable = looked.5;
-  seen = looked.6;
-  few = looked.7;
+  life = record { lawful = looked.4; extends = λ older h. (looked.5 older h).0; own = λ older h. (looked.5 older h).1 };
+  past = looked.1;
+  after = looked.9;
+  seat = c.exchange.ensures.3 ∙ (λ i. ((looked.2 i).0, (c.args.page, None) ∷ rest (looked.2 i).1));
+  counted = looked.3;
+  stands = taken_out _ _ _ _ _ _ _ c.exchange.ensures.2 (ap (λ (m : Sat). m.1) looked.2) (search rules);
+  countable = looked.6;
+  seen = looked.7;
+  few = looked.8;
 }

@@ -20,13 +20,13 @@ join_seat-requires g c = let k = c.args.self.now.table.shared.key in let p = c.a
       search rules,
       search rules,
       search rules,
-      subst (λ (z : View × View). Joins (Kept k) p.seat.id z.0 c.split_seat-copy.result.id z.1 (joined z.0 z.1) Spent) (λ i. (sym here i, sym there i)) (joins k p.seat.id c.split_seat-copy.result.id (sight_of p.seat.me.0) (sight_of q.seat.me.0).seen),
+      subst (λ (z : View × View). Joins (Kept k) p.seat.id z.0 c.split_seat-copy.result.id z.1 (joined z.0 z.1) Spent) (λ i. (sym here i, sym there i)) (joins k p.seat.id c.split_seat-copy.result.id (sight_of p.seat.me.0) (sight_of q.seat.me.0).seen (sight_of q.seat.me.0).past),
     )
 
 pub load-requires : goal.load-requires
 load-requires g c = let k = c.args.self.now.table.shared.key in let n = c.args.self.now.table.shared.table_id.slots in let p = c.args.one.now in let q = c.args.other.now in
     let here = ap (λ (m : Sat). m.0) p.rests.0 in let there = ap (λ (m : Sat). m.0) c.split_seat-copy.ensures.4 ∙ ap (λ (m : Sat). copied m.0) q.rests.0 in
-    let w : Sight = record (sight_of p.seat.me.0) { other = (sight_of q.seat.me.0).seen } in
+    let w : Sight = record (sight_of p.seat.me.0) { other_past = (sight_of q.seat.me.0).past; other = (sight_of q.seat.me.0).seen } in
     let now : c.join_seat.new.seat.me ≡ (One w, []) = c.join_seat.ensures.2 ∙ (λ i. (joined (here i) (there i), (p.rests.0 i).1)) in (
       search rules,
       search rules,

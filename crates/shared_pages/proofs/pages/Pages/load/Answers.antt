@@ -8,7 +8,7 @@ use Rattle.shared_pages.specs.declared.view.View.TheVariants.{One}
 use Rattle.shared_pages.specs.declared.view.Sight.{Sight}
 use Rattle.shared_pages.specs.declared.answers.Load.TheVariants.{Loaded}
 use Rattle.smbd_base.specs.declared.page_event.PageEvent.TheVariants.{Load}
-use Rattle.shared_pages.specs.Rule.{Sat, sight_of}
+use Rattle.shared_pages.specs.Rule.{Sat, IsPastAfter, sight_of}
 use Rattle.shared_pages.specs.Calls.{with_event, HasSeen, IsInHand}
 use Rattle.shared_pages.specs.Answers.{load_answer}
 use Rattle.shared_pages.proofs.InHand.{rests_by, may_let_go, may_give, given-seat, given-few}
@@ -30,7 +30,7 @@ give_back-requires-clause-may c =
 
 pub invariant_of-pass-2 : goal.invariant_of-pass-2
 invariant_of-pass-2 c =
-    let seat = given-seat _ _ _ _ _ _ c.in-Some.ensures.held (Load c.load-token.result c.args.right c.args.bytes.now) c.give_back.new.seat.me c.give_back.ensures.given c.args.pass.now.rests.1 in
+    let seat = (given-seat _ _ _ _ _ _ c.in-Some.ensures.held (Load c.load-token.result c.args.right c.args.bytes.now) c.give_back.new.seat.me c.give_back.ensures.given c.args.pass.now.rests.1).1 in
     record {
       rests = rests_by c.give_back.new.seat.me _ seat c.args.pass.now.rests.1;
       numbered = c.args.pass.now.numbered ∙ ap (λ (m : Sat). (sight_of m.0).number) (sym seat);
@@ -43,15 +43,17 @@ returns-clause-tells c = λ no.
     let event = Load c.load-token.result c.args.right c.args.bytes.now in
     let h = c.in-Some.ensures.held in
     let v : Sight = sight_of c.args.pass.now.seat.me.0 in
-    let seat : c.give_back.new.seat.me ≡ (One (with_event v c.from-place.result event h.log), []) =
-    given-seat _ _ _ _ _ _ h event c.give_back.new.seat.me c.give_back.ensures.given c.args.pass.now.rests.1 in
+    let given = given-seat _ _ _ _ _ _ h event c.give_back.new.seat.me c.give_back.ensures.given c.args.pass.now.rests.1 in
+    let seat : c.give_back.new.seat.me ≡ (One (with_event v c.from-place.result event h.log given.0), []) = given.1 in
     record {
       log = h.log;
       life = subst (λ (p : ℕ). Rattle.shared_pages.specs.Calls.IsLifeAfter first p v h.log) at h.life;
+      past = given.0;
+      after = subst (λ (p : ℕ). IsPastAfter p v h.log given.0) at given.2;
       most = subst (λ (s : PageState). s.generation ≤ LAST_GENERATION) h.stands (search rules);
       answer = ap Loaded c.load-token.ensures.token ∙ answers_loaded c.args.page c.in-Some.slot.generation c.in-Some.slot.loaded (search rules) (sym c.is_spent.ensures.value ∙ c.if-is_spent.false)
           ∙ ap (λ (s : PageState). load_answer c.args.page s) h.stands;
-      loaded = (subst (IsPageStep event) h.stands c.load-token.ensures.step, ap (λ (m : Sat). sight_of m.0) seat ∙ ap (λ (p : ℕ). with_event v p event h.log) at);
+      loaded = (subst (IsPageStep event) h.stands c.load-token.ensures.step, ap (λ (m : Sat). sight_of m.0) seat ∙ ap (λ (p : ℕ). with_event v p event h.log given.0) at);
       refused = tt;
     }
 

@@ -1,0 +1,2 @@
+pub mod WentLemmas
+pub mod AnswerLemmas
