@@ -11,9 +11,9 @@ mod pages;
 
 use ends::{Ends, open_ends, play};
 use file_messages::{Channel, CopyKind};
-use lines::lines_of;
+use lines::{Lines, lines_of};
 use messages::flaw_of_messages;
-use pages::{Load, flaw_of_loads, loads_of};
+use pages::{Load, flaw_of_loads, groups_brought, loads_of};
 use smbd_base::EndLimits;
 use std::alloc::Global;
 use std::process::Abort;
@@ -55,8 +55,8 @@ pub enum Flaw {
     Page,
 }
 
-/// What a log tells, in numbers: the frames that the client sent, the requests and replies that were submitted and delivered, and which
-/// ends are cut.
+/// What a log tells, in numbers: the frames that the client sent, the requests and replies that were submitted and delivered, the groups
+/// whose bytes came where the sink is, and which ends are cut.
 #[derive(Clone, Copy, Debug, PartialEq, Eq)]
 pub struct Told {
     pub frames_sent: usize,
@@ -64,17 +64,19 @@ pub struct Told {
     pub replies: usize,
     pub requests_delivered: usize,
     pub replies_delivered: usize,
+    pub groups_brought: usize,
     pub is_client_cut: bool,
     pub is_server_cut: bool,
 }
 
-fn told_by(ends: &Ends) -> Told {
+fn told_by(copied: &Copied<'_>, ends: &Ends, loads: &[Load]) -> Told {
     Told {
         frames_sent: ends.client.sent.len(),
         requests: ends.client.submitted.len(),
         replies: ends.server.submitted.len(),
         requests_delivered: ends.server.delivered,
         replies_delivered: ends.client.delivered,
+        groups_brought: groups_brought(copied, ends, loads),
         is_client_cut: ends.client.end.is_cut(),
         is_server_cut: ends.server.end.is_cut(),
     }
@@ -96,7 +98,7 @@ pub fn tell(
     let mut ends = open_ends(rt, alloc, copied.limits, &lines);
     match flaw_of_ends(rt, alloc, copied, &lines, &mut ends, &mut loads) {
         Some(flaw) => Err(flaw),
-        None => Ok(told_by(&ends)),
+        None => Ok(told_by(copied, &ends, &loads)),
     }
 }
 
@@ -104,7 +106,7 @@ fn flaw_of_ends(
     rt: &impl Abort,
     alloc: Global,
     copied: &Copied<'_>,
-    lines: &lines::Lines,
+    lines: &Lines,
     ends: &mut Ends,
     loads: &mut Vec<Load>,
 ) -> Option<Flaw> {

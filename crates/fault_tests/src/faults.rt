@@ -9,7 +9,7 @@ use std::process::Abort;
 
 mod calls;
 mod cuts;
-// mod lies;
+mod lies;
 
 /// The workers of each end where the words name none.
 const WORKERS: u8 = 4;
@@ -37,13 +37,10 @@ impl Way {
     }
 }
 
-/// The groups of which the log tells that they were delivered, in bytes.
-fn bytes_delivered(copied: &Copied<'_>, told: &Told) -> usize {
-    let groups = match copied.kind {
-        CopyKind::Put => told.requests_delivered,
-        CopyKind::Get => told.replies_delivered,
-    };
-    groups.saturating_mul(65_536).min(copied.bytes.len())
+/// The groups of which the log tells that their bytes came where the sink is, in bytes.
+fn bytes_brought(copied: &Copied<'_>, told: &Told) -> usize {
+    let most = copied.bytes.len();
+    told.groups_brought.saturating_mul(65_536).min(most)
 }
 
 /// Whether the sink has a front of these bytes, of whole groups; the last one may be shorter.
@@ -57,7 +54,7 @@ fn told_by(rt: &impl Abort, alloc: Global, name: &str, copied: &Copied<'_>, ran:
     assert!(rt; answer.is_ok(), "{name}: {answer:?}");
     let told = answer.expect(rt, name);
     assert!(rt; is_of_groups(copied.bytes, ran.sink.taken()), "{name}");
-    let most = bytes_delivered(copied, &told);
+    let most = bytes_brought(copied, &told);
     assert!(rt; ran.sink.taken().len() <= most, "{name}");
     told
 }

@@ -10,7 +10,7 @@ use super::{Copied, Flaw};
 use crate::MEMORY;
 use buffer_descriptor::Descriptor;
 use event_log::{LogLine, Side};
-use file_messages::CopyKind;
+use file_messages::{Channel, CopyKind};
 use smbd_base::Right;
 use std::alloc::Global;
 use std::process::Abort;
@@ -262,4 +262,30 @@ pub fn flaw_of_loads(copied: &Copied<'_>, ends: &Ends, loads: &[Load]) -> Option
         }
     }
     None
+}
+
+/// Whether the bytes of the request of this id came where the sink is: fetched from all its pages, or given back by all of them.
+fn is_brought(copied: &Copied<'_>, loads: &[Load], number: usize) -> bool {
+    let id = number.saturating_add(1) as u32;
+    match copied.kind {
+        CopyKind::Put => accessed_for(loads, id) == bytes_of_group(copied, number) as u64,
+        CopyKind::Get => {
+            let mut of_request = loads.iter().filter(|load| load.request == id);
+            of_request.all(|load| load.is_unloaded)
+        }
+    }
+}
+
+/// How many groups, from the first one on, came where the sink is.
+pub fn groups_brought(copied: &Copied<'_>, ends: &Ends, loads: &[Load]) -> usize {
+    let delivered = match copied.kind {
+        CopyKind::Put => ends.server.delivered,
+        CopyKind::Get => ends.client.delivered,
+    };
+    if copied.channel == Channel::None {
+        return delivered;
+    }
+    (0..delivered)
+        .take_while(|number| is_brought(copied, loads, *number))
+        .count()
 }

@@ -1,6 +1,6 @@
 //! One call of the source, the sink or the log fails, of the first six of each.
 
-use super::{Way, bytes_delivered, told_by};
+use super::{Way, bytes_brought, told_by};
 use crate::checker::{Copied, Told};
 use crate::outside::{Failing, Ran, run_copy, some_bytes};
 use file_messages::{Channel, CopyKind};
@@ -9,32 +9,33 @@ use std::alloc::Global;
 use std::process::Abort;
 use std::sync::Wait;
 
-const WAYS: &[Way] = &[
-    Way {
-        words: &["put", "--channel", "none"],
-        kind: CopyKind::Put,
-        channel: Channel::None,
-        credits: 255,
-    },
-    Way {
-        words: &["put"],
-        kind: CopyKind::Put,
-        channel: Channel::V1,
-        credits: 255,
-    },
-    Way {
-        words: &["get", "--channel", "none"],
-        kind: CopyKind::Get,
-        channel: Channel::None,
-        credits: 255,
-    },
-    Way {
-        words: &["get"],
-        kind: CopyKind::Get,
-        channel: Channel::V1,
-        credits: 255,
-    },
-];
+const PUT: Way = Way {
+    words: &["put", "--channel", "none"],
+    kind: CopyKind::Put,
+    channel: Channel::None,
+    credits: 255,
+};
+
+const PUT_OVER_PAGES: Way = Way {
+    words: &["put"],
+    kind: CopyKind::Put,
+    channel: Channel::V1,
+    credits: 255,
+};
+
+const GET: Way = Way {
+    words: &["get", "--channel", "none"],
+    kind: CopyKind::Get,
+    channel: Channel::None,
+    credits: 255,
+};
+
+const GET_OVER_PAGES: Way = Way {
+    words: &["get"],
+    kind: CopyKind::Get,
+    channel: Channel::V1,
+    credits: 255,
+};
 
 /// The bytes of a copy: three whole groups and a shorter one.
 const LENGTH: u32 = 200_000;
@@ -59,7 +60,7 @@ fn check_read_fault(rt: &impl Abort, call: u32, copied: &Copied<'_>, told: &Told
     let before = call.saturating_sub(1).saturating_mul(65_536) as usize;
     let stored = ran.sink.taken().len();
     assert!(rt; stored <= before, "read {call}");
-    assert_eq!(rt; stored, bytes_delivered(copied, told), "read {call}");
+    assert_eq!(rt; stored, bytes_brought(copied, told), "read {call}");
 }
 
 /// The sink has what it took before, and the log tells of the group that it was to take.
@@ -68,7 +69,7 @@ fn check_write_fault(rt: &impl Abort, call: u32, copied: &Copied<'_>, told: &Tol
     let before = call.saturating_sub(1).saturating_mul(65_536) as usize;
     let stored = ran.sink.taken().len();
     assert_eq!(rt; stored, before, "write {call}");
-    assert!(rt; stored < bytes_delivered(copied, told), "write {call}");
+    assert!(rt; stored < bytes_brought(copied, told), "write {call}");
 }
 
 /// The log is a front of that of the whole copy.
@@ -162,8 +163,21 @@ fn check_way(rt: &(impl Abort + Wait), alloc: Global, way: &Way) {
 }
 
 #[test]
-fn one_call_fails(rt: HostRuntime) {
-    for way in WAYS {
-        check_way(&rt, rt.alloc(), way);
-    }
+fn a_call_fails_in_a_put(rt: HostRuntime) {
+    check_way(&rt, rt.alloc(), &PUT);
+}
+
+#[test]
+fn a_call_fails_in_a_put_over_pages(rt: HostRuntime) {
+    check_way(&rt, rt.alloc(), &PUT_OVER_PAGES);
+}
+
+#[test]
+fn a_call_fails_in_a_get(rt: HostRuntime) {
+    check_way(&rt, rt.alloc(), &GET);
+}
+
+#[test]
+fn a_call_fails_in_a_get_over_pages(rt: HostRuntime) {
+    check_way(&rt, rt.alloc(), &GET_OVER_PAGES);
 }

@@ -1,6 +1,6 @@
 //! The client cuts the link in the place of each of its frames.
 
-use super::{Way, bytes_delivered, told_by};
+use super::{Way, bytes_brought, told_by};
 use crate::checker::Copied;
 use crate::outside::{Failing, Ran, run_copy, run_cut_copy, some_bytes};
 use file_messages::{Channel, CopyKind};
@@ -67,8 +67,7 @@ fn check_cut(
     assert!(rt; told.is_client_cut && told.is_server_cut, "frame {number}");
     let (log, of_whole) = (ran.log.taken(), whole.log.taken());
     assert!(rt; is_front_to_cut(log, of_whole), "frame {number}");
-    assert!(rt; log.ends_with(b"S cut\n"), "frame {number}");
-    let stored = bytes_delivered(copied, &told);
+    let stored = bytes_brought(copied, &told);
     assert_eq!(rt; ran.sink.taken().len(), stored, "frame {number}");
 }
 
