@@ -83,12 +83,7 @@ fn told_by(copied: &Copied<'_>, ends: &Ends, loads: &[Load]) -> Told {
 }
 
 /// What the whole lines of a log tell of this copy, or the first flaw that is found.
-pub fn tell(
-    rt: &impl Abort,
-    alloc: Global,
-    copied: &Copied<'_>,
-    log: &[u8],
-) -> Result<Told, Flaw> {
+pub fn tell(rt: &impl Abort, alloc: Global, copied: &Copied<'_>, log: &[u8]) -> Result<Told, Flaw> {
     let Some(lines) = lines_of(rt, alloc, log) else {
         return Err(Flaw::Line);
     };

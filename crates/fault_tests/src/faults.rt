@@ -23,6 +23,34 @@ struct Way {
     credits: u16,
 }
 
+const PUT: Way = Way {
+    words: &["put", "--channel", "none"],
+    kind: CopyKind::Put,
+    channel: Channel::None,
+    credits: 255,
+};
+
+const PUT_OVER_PAGES: Way = Way {
+    words: &["put"],
+    kind: CopyKind::Put,
+    channel: Channel::V1,
+    credits: 255,
+};
+
+const GET: Way = Way {
+    words: &["get", "--channel", "none"],
+    kind: CopyKind::Get,
+    channel: Channel::None,
+    credits: 255,
+};
+
+const GET_OVER_PAGES: Way = Way {
+    words: &["get"],
+    kind: CopyKind::Get,
+    channel: Channel::V1,
+    credits: 255,
+};
+
 impl Way {
     /// What its log is held against.
     fn copied<'a>(&self, rt: &impl Abort, bytes: &'a [u8]) -> Copied<'a> {

@@ -150,7 +150,9 @@ pub fn run_cut_copy(
 ) -> Ran {
     let mut words = words_of(rt, alloc, texts);
     let text = format!(in alloc; "--cut={cut}").expect(rt, MEMORY);
-    words.push(word_of(rt, alloc, text.as_str())).expect(rt, MEMORY);
+    words
+        .push(word_of(rt, alloc, text.as_str()))
+        .expect(rt, MEMORY);
     run_words(rt, alloc, &words, bytes, Failing::Nothing)
 }
 

@@ -43,7 +43,11 @@ enum Turn {
 }
 
 fn turn_of(is_done: bool, flaw: Flaw) -> Turn {
-    if is_done { Turn::Done } else { Turn::Flawed(flaw) }
+    if is_done {
+        Turn::Done
+    } else {
+        Turn::Flawed(flaw)
+    }
 }
 
 /// Adds the payload of a data transfer message.
@@ -194,7 +198,9 @@ fn do_emit(rt: &impl Abort, one: &mut Played, frame: &Frame) -> Turn {
     if !sends(rt, &mut one.end, frame) {
         return Turn::Flawed(Flaw::Emit);
     }
-    one.sent.push(frame.share().expect(rt, MEMORY)).expect(rt, MEMORY);
+    one.sent
+        .push(frame.share().expect(rt, MEMORY))
+        .expect(rt, MEMORY);
     Turn::Done
 }
 

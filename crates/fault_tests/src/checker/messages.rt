@@ -5,8 +5,8 @@ use super::pages::{Load, named_by};
 use super::{Copied, Flaw};
 use crate::MEMORY;
 use file_messages::{
-    Asked, Channel, CopyKind, END, READ, REPLY, Reply, WRITE, read_request,
-    request_header, write_reply,
+    Asked, Channel, CopyKind, END, READ, REPLY, Reply, WRITE, read_request, request_header,
+    write_reply,
 };
 use smbd_base::Message;
 use std::alloc::Global;
@@ -35,7 +35,7 @@ struct Form<'a> {
 }
 
 /// How many WRITEs or READs a copy has: a get asks until a READ brings fewer bytes than a group.
-fn groups_of(copied: &Copied<'_>) -> usize {
+pub fn groups_of(copied: &Copied<'_>) -> usize {
     let length = copied.bytes.len();
     match copied.kind {
         CopyKind::Put => length.div_ceil(65_536),
@@ -130,7 +130,13 @@ fn names_pages(
     };
     let mut left = form.asked.length;
     for descriptor in request.descriptors.list() {
-        if !named_by(loads, copied.kind, form.asked.id, descriptor, left.min(4_096)) {
+        if !named_by(
+            loads,
+            copied.kind,
+            form.asked.id,
+            descriptor,
+            left.min(4_096),
+        ) {
             return false;
         }
         left = left.saturating_sub(4_096);

@@ -5,7 +5,7 @@
 
 use super::ends::Ends;
 use super::lines::PageLine;
-use super::messages::bytes_of_group;
+use super::messages::{bytes_of_group, groups_of};
 use super::{Copied, Flaw};
 use crate::MEMORY;
 use buffer_descriptor::Descriptor;
@@ -51,13 +51,7 @@ fn can_load(loads: &[Load], token: u32) -> bool {
     is_next
 }
 
-fn add_load(
-    rt: &impl Abort,
-    loads: &mut Vec<Load>,
-    token: u32,
-    right: Right,
-    length: u32,
-) -> bool {
+fn add_load(rt: &impl Abort, loads: &mut Vec<Load>, token: u32, right: Right, length: u32) -> bool {
     if !can_load(loads, token) {
         return false;
     }
@@ -207,10 +201,7 @@ pub fn named_by(
         CopyKind::Get => Right::Place,
     };
     let start = u64::from(page_of(descriptor.token)).saturating_mul(4_096);
-    match loads
-        .iter_mut()
-        .find(|load| load.token == descriptor.token)
-    {
+    match loads.iter_mut().find(|load| load.token == descriptor.token) {
         Some(load) => {
             let was_named = load.request != 0;
             load.request = id;
@@ -247,9 +238,17 @@ fn accessed_for(loads: &[Load], id: u32) -> u64 {
     sum
 }
 
+/// Whether a get has sent END, for which it needs the bytes of all its pages.
+fn has_all(copied: &Copied<'_>, ends: &Ends) -> bool {
+    copied.kind == CopyKind::Get && groups_of(copied) < ends.client.submitted.len()
+}
+
 /// The first load that doesn't agree with what both ends did, or answered request whose bytes were not all accessed.
 pub fn flaw_of_loads(copied: &Copied<'_>, ends: &Ends, loads: &[Load]) -> Option<Flaw> {
     if !loads.iter().all(|load| agrees(ends, load)) {
+        return Some(Flaw::Page);
+    }
+    if has_all(copied, ends) && !loads.iter().all(|load| load.is_unloaded) {
         return Some(Flaw::Page);
     }
     if loads.is_empty() {

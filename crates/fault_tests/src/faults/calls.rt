@@ -1,41 +1,12 @@
 //! One call of the source, the sink or the log fails, of the first six of each.
 
-use super::{Way, bytes_brought, told_by};
+use super::{GET, GET_OVER_PAGES, PUT, PUT_OVER_PAGES, Way, bytes_brought, told_by};
 use crate::checker::{Copied, Told};
 use crate::outside::{Failing, Ran, run_copy, some_bytes};
-use file_messages::{Channel, CopyKind};
 use smbd_outside::Status;
 use std::alloc::Global;
 use std::process::Abort;
 use std::sync::Wait;
-
-const PUT: Way = Way {
-    words: &["put", "--channel", "none"],
-    kind: CopyKind::Put,
-    channel: Channel::None,
-    credits: 255,
-};
-
-const PUT_OVER_PAGES: Way = Way {
-    words: &["put"],
-    kind: CopyKind::Put,
-    channel: Channel::V1,
-    credits: 255,
-};
-
-const GET: Way = Way {
-    words: &["get", "--channel", "none"],
-    kind: CopyKind::Get,
-    channel: Channel::None,
-    credits: 255,
-};
-
-const GET_OVER_PAGES: Way = Way {
-    words: &["get"],
-    kind: CopyKind::Get,
-    channel: Channel::V1,
-    credits: 255,
-};
 
 /// The bytes of a copy: three whole groups and a shorter one.
 const LENGTH: u32 = 200_000;
@@ -158,7 +129,15 @@ fn check_way(rt: &(impl Abort + Wait), alloc: Global, way: &Way) {
     for call in 1..=6u32 {
         fail_at(rt, alloc, way, call, Failing::Read(call), &copied, &whole);
         fail_at(rt, alloc, way, call, Failing::Write(call), &copied, &whole);
-        fail_at(rt, alloc, way, call, Failing::LogWrite(call), &copied, &whole);
+        fail_at(
+            rt,
+            alloc,
+            way,
+            call,
+            Failing::LogWrite(call),
+            &copied,
+            &whole,
+        );
     }
 }
 

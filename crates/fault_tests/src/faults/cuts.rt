@@ -1,40 +1,36 @@
 //! The client cuts the link in the place of each of its frames.
 
-use super::{Way, bytes_brought, told_by};
+use super::{GET, GET_OVER_PAGES, PUT, PUT_OVER_PAGES, Way, bytes_brought, told_by};
 use crate::checker::Copied;
 use crate::outside::{Failing, Ran, run_copy, run_cut_copy, some_bytes};
-use file_messages::{Channel, CopyKind};
 use smbd_outside::Status;
 use std::alloc::Global;
 use std::process::Abort;
 use std::sync::Wait;
 
-const PUT: Way = Way {
+/// The copies of each kind over each channel, with three credits at each end.
+const PUT_3: Way = Way {
     words: &["put", "--channel", "none", "--credits", "3"],
-    kind: CopyKind::Put,
-    channel: Channel::None,
     credits: 3,
+    ..PUT
 };
 
-const PUT_OVER_PAGES: Way = Way {
+const PUT_OVER_PAGES_3: Way = Way {
     words: &["put", "--credits", "3"],
-    kind: CopyKind::Put,
-    channel: Channel::V1,
     credits: 3,
+    ..PUT_OVER_PAGES
 };
 
-const GET: Way = Way {
+const GET_3: Way = Way {
     words: &["get", "--channel", "none", "--credits", "3"],
-    kind: CopyKind::Get,
-    channel: Channel::None,
     credits: 3,
+    ..GET
 };
 
-const GET_OVER_PAGES: Way = Way {
+const GET_OVER_PAGES_3: Way = Way {
     words: &["get", "--credits", "3"],
-    kind: CopyKind::Get,
-    channel: Channel::V1,
     credits: 3,
+    ..GET_OVER_PAGES
 };
 
 /// Whether two logs are equal up to the first line in which the client is cut, which the first one has.
@@ -140,13 +136,13 @@ fn cut_in_the_middle(rt: &(impl Abort + Wait), alloc: Global, way: &Way) {
 /// The request, the three pieces of the WRITE and END are five of the client's frames; it sends empty ones besides.
 #[test]
 fn a_put_is_cut_at_each_frame(rt: HostRuntime) {
-    let frames = cut_at_each(&rt, rt.alloc(), &PUT);
+    let frames = cut_at_each(&rt, rt.alloc(), &PUT_3);
     assert!(rt; 5 <= frames && frames < 12, "{frames} frames");
 }
 
 #[test]
 fn other_copies_are_cut_at_each_frame(rt: HostRuntime) {
-    for way in [&PUT_OVER_PAGES, &GET, &GET_OVER_PAGES] {
+    for way in [&PUT_OVER_PAGES_3, &GET_3, &GET_OVER_PAGES_3] {
         let frames = cut_at_each(&rt, rt.alloc(), way);
         assert!(rt; 3 <= frames && frames < 12, "{frames} frames");
     }
@@ -154,7 +150,7 @@ fn other_copies_are_cut_at_each_frame(rt: HostRuntime) {
 
 #[test]
 fn longer_copies_are_cut_in_the_middle(rt: HostRuntime) {
-    for way in [&PUT, &PUT_OVER_PAGES, &GET, &GET_OVER_PAGES] {
+    for way in [&PUT_3, &PUT_OVER_PAGES_3, &GET_3, &GET_OVER_PAGES_3] {
         cut_in_the_middle(&rt, rt.alloc(), way);
     }
 }
