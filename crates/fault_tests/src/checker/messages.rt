@@ -43,10 +43,15 @@ pub fn groups_of(copied: &Copied<'_>) -> usize {
     }
 }
 
+/// The id of the request of this number, from 0.
+pub fn id_of(number: usize) -> u32 {
+    number.saturating_add(1).min(65_536) as u32
+}
+
 /// The request of this number, from 0, of a copy.
 fn form_of<'a>(copied: &Copied<'a>, number: usize) -> Option<Form<'a>> {
     let groups = groups_of(copied);
-    let id = number.saturating_add(1) as u32;
+    let id = id_of(number);
     if groups < number {
         return None;
     }
@@ -78,7 +83,7 @@ fn form_of<'a>(copied: &Copied<'a>, number: usize) -> Option<Form<'a>> {
             op,
             channel: copied.channel.number(),
             id,
-            length: length as u32,
+            length: length.min(65_536) as u32,
         },
         offset: offset as u64,
         bytes,
@@ -102,7 +107,7 @@ fn has_form(
     known: usize,
     loads: &mut Vec<Load>,
 ) -> bool {
-    let header = request_header(&form.asked, form.offset, form.pages as u16);
+    let header = request_header(&form.asked, form.offset, form.pages.min(16) as u16);
     let carried = match (copied.kind, copied.channel) {
         (CopyKind::Put, Channel::None) => form.bytes,
         _ => &[],
@@ -155,7 +160,7 @@ fn is_reply(
 ) -> bool {
     let count = match copied.kind {
         CopyKind::Put => form.asked.length,
-        CopyKind::Get => form.bytes.len() as u32,
+        CopyKind::Get => form.bytes.len().min(65_536) as u32,
     };
     let carried = match (copied.kind, copied.channel) {
         (CopyKind::Get, Channel::None) => form.bytes,

@@ -5,7 +5,7 @@
 
 use super::ends::Ends;
 use super::lines::PageLine;
-use super::messages::{bytes_of_group, groups_of};
+use super::messages::{bytes_of_group, groups_of, id_of};
 use super::{Copied, Flaw};
 use crate::MEMORY;
 use buffer_descriptor::Descriptor;
@@ -36,7 +36,7 @@ fn page_of(token: u32) -> u32 {
 
 /// The number of the worker of a page.
 fn worker_of(token: u32, workers: u8) -> u8 {
-    let number = page_of(token) as u8;
+    let number = (token % 256) as u8;
     number.checked_rem(workers).unwrap_or(0).saturating_add(1)
 }
 
@@ -255,7 +255,7 @@ pub fn flaw_of_loads(copied: &Copied<'_>, ends: &Ends, loads: &[Load]) -> Option
         return None;
     }
     for number in 0..ends.server.submitted.len() {
-        let id = number.saturating_add(1) as u32;
+        let id = id_of(number);
         if accessed_for(loads, id) != bytes_of_group(copied, number) as u64 {
             return Some(Flaw::Page);
         }
@@ -265,7 +265,7 @@ pub fn flaw_of_loads(copied: &Copied<'_>, ends: &Ends, loads: &[Load]) -> Option
 
 /// Whether the bytes of the request of this id came where the sink is: fetched from all its pages, or given back by all of them.
 fn is_brought(copied: &Copied<'_>, loads: &[Load], number: usize) -> bool {
-    let id = number.saturating_add(1) as u32;
+    let id = id_of(number);
     match copied.kind {
         CopyKind::Put => accessed_for(loads, id) == bytes_of_group(copied, number) as u64,
         CopyKind::Get => {
