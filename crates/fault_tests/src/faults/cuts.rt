@@ -80,7 +80,7 @@ fn frames_of(rt: &impl Abort, alloc: Global, copied: &Copied<'_>, whole: &Ran) -
     let told = told_by(rt, alloc, "a copy that isn't cut", copied, whole);
     assert!(rt; !told.is_client_cut && !told.is_server_cut);
     assert!(rt; whole.sink.taken() == copied.bytes);
-    told.frames_sent as u32
+    u32::try_from(told.frames_sent).expect(rt, "few frames")
 }
 
 /// Cuts a copy in the place of the frame of this number.
